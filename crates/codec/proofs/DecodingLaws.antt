@@ -224,8 +224,8 @@ check-unique u w bu bw ls e cu cw t =
 
 -- ---- one pair at most corrects a word
 
-both-mend : (w : List ℕ) (s e t f : ℕ) → Bytes w → (length w ≡ 69) ⊎ (length w ≡ 70) → Corrects w s e → Corrects w t f → corrected w s e ≡ corrected w t f
-both-mend w s e t f b ls m n =
+both-correct : (w : List ℕ) (s e t f : ℕ) → Bytes w → (length w ≡ 69) ⊎ (length w ≡ 70) → Corrects w s e → Corrects w t f → corrected w s e ≡ corrected w t f
+both-correct w s e t f b ls m n =
     let u : List ℕ = corrected w s e in
     let v : List ℕ = corrected w t f in
     let lu : length u ≡ length w = length-corrected w s e in
@@ -251,7 +251,7 @@ at-both w s e t f hs ht ne same =
 
 -- One pair at most corrects a word.
 pub corrects-unique : (w : List ℕ) (s e t f : ℕ) → Bytes w → (length w ≡ 69) ⊎ (length w ≡ 70) → Corrects w s e → Corrects w t f → (s ≡ t) × (e ≡ f)
-corrects-unique w s e t f b ls m n = at-both w s e t f (m .inside) (n .inside) (m .changes) (both-mend w s e t f b ls m n)
+corrects-unique w s e t f b ls m n = at-both w s e t f (m .inside) (n .inside) (m .changes) (both-correct w s e t f b ls m n)
 
 -- What is found is determined by the word.
 pub found-unique : (w : List ℕ) (p q : Option (ℕ × ℕ)) → Bytes w → (length w ≡ 69) ⊎ (length w ≡ 70) → Found w p → Found w q → p ≡ q

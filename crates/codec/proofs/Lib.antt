@@ -1,8 +1,8 @@
 mod Sums
-mod Distance
+pub mod Distance
 mod WordLaws
 mod Encoding
-mod DecodingLaws
+pub mod DecodingLaws
 mod PointsShown
 mod FinderLaws
 mod CheckLaws

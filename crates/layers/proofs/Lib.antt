@@ -1,0 +1,3 @@
+pub mod FaultLaws
+mod LineLaws
+pub mod BufferLaws

@@ -1,0 +1,5 @@
+pub mod PieceLaws
+pub mod RunLaws
+pub mod FirstLaws
+mod FlatLaws
+mod WordLaws

@@ -1,0 +1,20 @@
+-- What the two memories mean, and what a put does exactly to the bytes or words that they own.
+use mathlib.Core.Path.{_≡_}
+use Rattle.std.specs.Of.Vec.{vec-items}
+use Rattle.stack.specs.Memory.{Meaning, Piece}
+use Rattle.stack.specs.Flat.{flat-means, written}
+use Rattle.stack.specs.Words.{bytes-of}
+use Rattle.stack.specs.declared.flat.bytes.ByteMemory.{ByteMemory}
+use Rattle.stack.specs.declared.flat.words.WordMemory.{WordMemory}
+
+abbrev pub byte-means : ByteMemory → Meaning
+byte-means s = flat-means (vec-items (s .bytes))
+
+abbrev pub BytesStored : ByteMemory → Piece → ByteMemory → Type 0
+BytesStored s p t = vec-items (t .bytes) ≡ written (vec-items (s .bytes)) p
+
+abbrev pub word-means : WordMemory → Meaning
+word-means s = flat-means (bytes-of (vec-items (s .words)))
+
+abbrev pub WordsStored : WordMemory → Piece → WordMemory → Type 0
+WordsStored s p t = bytes-of (vec-items (t .words)) ≡ written (bytes-of (vec-items (s .words))) p
