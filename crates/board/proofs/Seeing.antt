@@ -10,8 +10,7 @@ use Rattle.std.specs.declared.result.Result.the-variants.{Ok, Err}
 use Rattle.stack.specs.declared.refusal.Refusal.{Refusal}
 use Rattle.rules.specs.Places.{role}
 use Rattle.rules.specs.declared.roles.Role.{Role}
-use Rattle.rules.proofs.Geometry.{Real}
-use Rattle.rules.proofs.Rows.{Low, role-low}
+use Rattle.rules.proofs.Geometry.{Low, Real, role-low}
 use Rattle.board.specs.declared.marks.Marks.{Marks}
 use Rattle.board.specs.declared.marks.Marks.the-variants.{Zero, One, Two}
 use Rattle.board.specs.Marks.{listed}

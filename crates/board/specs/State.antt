@@ -2,6 +2,7 @@
 use mathlib.Core.Path.{_≡_}
 use mathlib.Core.List.{List, []}
 use Prim.Native.Nat.{ℕ, _/_, _%_}
+use lib.ListN.{length}
 use Rattle.std.specs.Iters.{counting}
 use Rattle.stack.specs.Memory.{Piece}
 use Rattle.stack.specs.Pieces.{InOrder}
@@ -37,6 +38,10 @@ pub record Ran {X : Type 0} (G : Ghosts X) (b : Board X) (pieces : List Piece) (
 abbrev pub Puts-of : {X : Type 0} → Ghosts X → Board X → HostCall → Board X → Type 0
 Puts-of G b c t = InOrder (G .means) (G .puts) (b .stack) (puts (state G b) c) (t .stack)
 
+-- the answer is that of the rules
+abbrev pub Answers : {X : Type 0} → Ghosts X → Board X → HostCall → Answer → Type 0
+Answers G b c r = r ≡ answer (state G b) c
+
 -- the marks are those after a call
 abbrev pub Marks-of : {X : Type 0} → Ghosts X → Board X → HostCall → Board X → Type 0
 Marks-of G b c t = listed (t .marks) ≡ marks-after (state G b) c
@@ -47,6 +52,13 @@ stored-piece b a new par bank = piece-at (storing (listed (b .marks)) (a % 64) n
 
 abbrev pub stored-pieces : {X : Type 0} → Board X → ℕ → List ℕ → List ℕ → List Piece
 stored-pieces b a new par = along-banks (storing (listed (b .marks)) (a % 64) new par) (a / 64) (counting 0 72)
+
+-- they were put, and nothing else
+abbrev pub Stores : {X : Type 0} → Ghosts X → Board X → ℕ → List ℕ → List ℕ → Board X → Type 0
+Stores G b a new par t = Ran G b (stored-pieces b a new par) t
+
+abbrev pub Stores-bank : {X : Type 0} → Ghosts X → Board X → ℕ → List ℕ → List ℕ → ℕ → Board X → Type 0
+Stores-bank G b a new par bank t = Ran G b (stored-piece b a new par bank) t
 
 -- zeros in the banks of the group of a bank
 abbrev pub cleared-pieces : {X : Type 0} → Board X → ℕ → ℕ → List Piece
@@ -76,6 +88,12 @@ scrubbed-count G b bank index work at = otherwise-part (G .means (b .stack) .sho
 abbrev pub scrubbed-total : {X : Type 0} → Ghosts X → Board X → ℕ → ℕ → List ℕ → ℕ
 scrubbed-total G b bank index work = otherwise (G .means (b .stack) .shown) index (scrubbed-part b bank index work) (counting 0 72)
 
+abbrev pub Scrubs : {X : Type 0} → Ghosts X → Board X → ℕ → ℕ → List ℕ → Board X → Type 0
+Scrubs G b bank index work t = Ran G b (scrubbed-pieces b bank index work) t
+
+abbrev pub Scrubs-bank : {X : Type 0} → Ghosts X → Board X → ℕ → ℕ → List ℕ → ℕ → Board X → Type 0
+Scrubs-bank G b bank index work at t = Ran G b (scrubbed-piece b bank index work at) t
+
 -- what a mark of a bank puts, at an index and everywhere
 abbrev pub retired-parts : {X : Type 0} → Ghosts X → Board X → ℕ → ℕ → ℕ → Option Part
 retired-parts G b bank = filling (listed (b .marks)) bank (λ a. line-of (for-mark (state G b) bank a))
@@ -92,10 +110,10 @@ Obtainable G b bank index = first-denied (for-mark (state G b) bank) (addresses 
 
 -- a call was done as the rules say
 pub record Did {X : Type 0} (G : Ghosts X) (b : Board X) (c : HostCall) (r : Answer) (t : Board X) : Type 0 where
-  pub answers : r ≡ answer (state G b) c
+  pub answers : Answers G b c r
   pub puts : Puts-of G b c t
   pub marks : Marks-of G b c t
 
--- a work buffer after a call: its first 4,096 bytes are zero once it was accepted
-abbrev pub work-after : {X : Type 0} → Ghosts X → Board X → HostCall → List ℕ → List ℕ
-work-after G b c w = left-over (argument-check (G .means (b .stack) .size) (listed (b .marks)) c) w
+-- a work buffer before and after a call: the first 4,096 bytes are zero once it was accepted, the rest stays
+abbrev pub Work-of : {X : Type 0} → Ghosts X → Board X → (ℕ → HostCall) → List ℕ → List ℕ → Type 0
+Work-of G b call before after = after ≡ left-over (argument-check (G .means (b .stack) .size) (listed (b .marks)) (call (length before))) before

@@ -11,7 +11,7 @@ ghost use Rattle.rules.specs.Rules.{answer, decoded, rebuilding, reading};
 ghost use Rattle.rules.specs.Work.{Sums, Sums-group};
 ghost use Rattle.rules.specs.declared.calls.Call.the-variants.{Read};
 ghost use Rattle.board.specs.Marks.{listed, holds-of-group};
-ghost use Rattle.board.specs.State.{state, shown-line, shown-check};
+ghost use Rattle.board.specs.State.{Answers, state, shown-line, shown-check};
 ghost use Rattle.board.specs.Told.{obtained-by, told-read};
 
 mod rows;
@@ -60,7 +60,7 @@ impl<S: Stack> Board<S> {
 
     // Hands the line of an address out into a buffer of 64 bytes, and says how it was come by.
     pub fn read(&self, address: usize, into: &mut [u8]) -> Result<Finding, Refusal>
-        ensures answers_as_ruled { λ r. ⌜ told-read r (now (into .exit)) ≡ answer (state S·Stack (now (self .entry))) (Read address (length (now (into .entry)))) ⌝ }
+        ensures answers_as_ruled { λ r. ⌜ Answers S·Stack (now (self .entry)) (Read address (length (now (into .entry)))) (told-read r (now (into .exit))) ⌝ }
         ensures a_refusal_leaves_the_buffer { λ r. ⌜ Cases r (λ _. Unit {0}) (λ _. now (into .exit) ≡ now (into .entry)) ⌝ }
     {
         if address / 64 >= self.stack.size() {

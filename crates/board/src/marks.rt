@@ -1,12 +1,9 @@
 // The banks retired so far, and where lines, checks and parity lie then.
 ghost use mathlib.Core.Path.{_≡_};
-ghost use mathlib.Core.List.{[], _∷_, _++_};
-ghost use Rattle.std.specs.Results.{Cases};
-ghost use Rattle.std.specs.declared.option.Option.the-variants.{Some, None};
 ghost use Rattle.rules.specs.Places.{line-bank, group-start, group-count, parity-bank, short as short-words, role as role-in, unmarked-role};
 ghost use Rattle.rules.specs.Rules.{spare-of};
-ghost use Rattle.rules.specs.Work.{lower as lower-of, markable};
-ghost use Rattle.board.specs.Marks.{listed, Added};
+ghost use Rattle.rules.specs.Work.{lower as lower-of};
+ghost use Rattle.board.specs.Marks.{listed, Adds};
 use super::bank::Bank;
 use super::bank::BankDebug;
 use super::bank::BankEq;
@@ -106,7 +103,7 @@ impl Marks {
 
     // The marks with one more bank.
     pub(crate) fn with(&self, bank: Bank) -> Result<Marks, Refusal>
-        ensures adds_or_refuses { λ r. ⌜ Cases r (λ m. Added (now (self .entry)) bank m) (λ e. markable (bank .number) (listed (now (self .entry))) ≡ Some e) ⌝ }
+        ensures adds_or_refuses { λ r. ⌜ Adds (now (self .entry)) bank r ⌝ }
     {
         match *self {
             Marks::Zero => Ok(Marks::One(bank)),

@@ -11,18 +11,17 @@ use Rattle.std.specs.shelf.Lists.{kept-by}
 use Rattle.std.specs.Results.{Cases}
 use Rattle.std.specs.declared.result.Result.{Result}
 use Rattle.std.specs.declared.result.Result.the-variants.{Ok, Err}
-use Rattle.std.specs.declared.option.Option.{Option}
 use Rattle.std.specs.declared.option.Option.the-variants.{Some, None}
 use Rattle.std.proofs.shelf.Tests.{cond-true, cond-false, and-parts, cases-bool, cases-lt, eqb-true, both-ways, not-true, leb-true, ltb-true, not-from-true, not-from-false}
 use Rattle.std.proofs.shelf.Elements.{kept-by-more}
 use Rattle.std.proofs.shelf.Lists.{map-append, append-nil, drop-more, drop-all, take-all}
-use Rattle.stack.specs.Memory.{Contents, Meaning, Place, Piece, Fits, Put, Sound, covers, over, cells, outside}
+use Rattle.stack.specs.Memory.{Contents, Meaning, Place, Piece, Put, Sound, covers, over, cells}
 use Rattle.stack.specs.Pieces.{Accepted, Puts, done, InOrder}
 use Rattle.stack.specs.Refusals.{judged, Stored, Fetched}
 use Rattle.stack.specs.declared.refusal.Refusal.{Refusal}
 use Rattle.stack.proofs.PieceLaws.{fits, inside, answered, covered-at, covers-from, over-on, over-off, over-at, cells-same}
 use Rattle.stack.proofs.RunLaws.{puts-push}
-use Rattle.layers.specs.Lines.{is-of, is-buffered, orderly, overlaid, buffering, with-piece, rewritten, line-of, piece-of, has-room, absorbed, strays, drained}
+use Rattle.layers.specs.Lines.{is-of, is-buffered, orderly, overlaid, buffering, rewritten, line-of, piece-of, has-room, absorbed, strays, drained}
 use Rattle.layers.specs.declared.line.BufferedLine.{BufferedLine}
 use Rattle.layers.specs.declared.buffer.LineTable.{LineTable}
 use Rattle.layers.specs.declared.buffer.WriteBuffer.{WriteBuffer}

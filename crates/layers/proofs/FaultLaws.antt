@@ -10,7 +10,7 @@ use lib.Dec.{eqb}
 use Rattle.std.specs.shelf.Lists.{kept-by}
 use Rattle.std.proofs.shelf.Tests.{cond-true, cond-false, and-parts, and-from, and-left, and-right, eqb-true, eq-eqb, ne-eqb, cases-bool, cases-eq, both-ways, not-false}
 use Rattle.std.proofs.shelf.Lists.{length-set, getD-set-same, getD-set-other}
-use Rattle.stack.specs.Memory.{Contents, Meaning, Piece, Place, Put, spans, covers, cells}
+use Rattle.stack.specs.Memory.{Contents, Meaning, Piece, Put, covers, cells}
 use Rattle.stack.proofs.PieceLaws.{within, spans-from, covers-from, length-cells, getD-cells, is-cells}
 use Rattle.layers.specs.Faults.{altered, acts, faulted, faulted-all, faulty, corrupted, corrupted-all, outlasts, outlasting, is-flip}
 use Rattle.layers.specs.declared.fault.Fault.{Fault}

@@ -2,7 +2,7 @@
 use mathlib.Core.Path.{_≡_}
 use mathlib.Core.Bool.{Bool, true, false, cond, not, _&&_}
 use mathlib.Core.List.{List, [], _∷_}
-use Prim.Native.Nat.{ℕ, _+_, _-_, _<_, _≤_, _%_}
+use Prim.Native.Nat.{ℕ, _-_, _<_, _%_}
 use native.Mathlib.Omega.{arith}
 use lib.ListN.{length, getD, set}
 use lib.Dec.{eqb, leb}
@@ -11,7 +11,7 @@ use Rattle.std.specs.declared.result.Result.{Result}
 use Rattle.std.specs.declared.result.Result.the-variants.{Ok, Err}
 use Rattle.std.specs.shelf.Lists.{kept-by}
 use Rattle.std.proofs.shelf.Tests.{cond-both}
-use Rattle.stack.specs.Memory.{Contents, Meaning, Piece, Place, Sound, outside, spans}
+use Rattle.stack.specs.Memory.{Contents, Meaning, Piece, Sound, outside, spans}
 use Rattle.stack.specs.declared.refusal.Refusal.{Refusal}
 use Rattle.stack.specs.declared.refusal.Refusal.the-variants.{PlaceOutOfRange, EmptyMask, FaultTableFull}
 use Rattle.layers.specs.declared.fault.Fault.{Fault}
@@ -60,6 +60,7 @@ aged f = record { bank = f .bank; index = f .index; byte = f .byte; kind = f .ki
 abbrev pub AgedAt : List Fault → ℕ → List Fault → Type 0
 AgedAt old j new = (d : Fault) → new ≡ set old j (aged (getD old j d))
 
+-- the kind that a put repairs
 abbrev pub is-flip : FaultKind → Bool
 is-flip Flip = true
 is-flip StuckAtOne = false

@@ -1,8 +1,7 @@
 -- Lines that are buffered above a memory.
-use mathlib.Core.Path.{_≡_}
 use mathlib.Core.Bool.{Bool, true, false, cond, not, _&&_}
 use mathlib.Core.List.{List, [], _∷_, _++_, map}
-use Prim.Native.Nat.{ℕ, _+_, _-_, _<_, _≤_, _%_}
+use Prim.Native.Nat.{ℕ, _+_, _-_, _<_, _%_}
 use native.Mathlib.Omega.{arith}
 use lib.ListN.{length, getD}
 use lib.Seq.{paste}
@@ -49,6 +48,7 @@ unfoldable pub rewritten : List BufferedLine → Piece → List BufferedLine
 rewritten [] p = []
 rewritten (l ∷ ls) p = cond (is-of l (p .bank) (p .index)) (with-piece l p ∷ ls) (l ∷ rewritten ls p)
 
+-- the line that a whole piece makes, and the piece that a line is put down as
 abbrev pub line-of : Piece → BufferedLine
 line-of p = record { bank = p .bank; index = p .index; bytes = p .bytes }
 

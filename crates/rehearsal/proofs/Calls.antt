@@ -31,10 +31,6 @@ pub stepped : {X : Type 0} (G : Ghosts X) (b t : Board X) (c : HostCall) (r : An
 stepped G b t c r given says puts marks =
     step-by-puts G (b .stack) (t .stack) (listed (b .marks)) (listed (t .marks)) c r given says marks puts (shown-small G (t .stack))
 
--- a wrong length is refused whatever it is
-pub wrong-length : (s : State) (a n m : ℕ) → (n ≡ 64 → ⊥) → (m ≡ 64 → ⊥) → answer s (Read a m) ≡ answer s (Read a n)
-wrong-length s a n m p q = rw (ne-eqb n 64 p, ne-eqb m 64 q) refl
-
 -- a read puts nothing
 pub read-puts : (s : State) (a n : ℕ) → puts s (Read a n) ≡ []
 read-puts s a n =
@@ -42,32 +38,6 @@ read-puts s a n =
       | inl t ↦ cond-true (accepted (answer s (Read a n))) _ [] t ∙ along-nothing (plan s (Read a n)) (counting 0 (s .size)) (λ j b. refl)
       | inr t ↦ cond-false (accepted (answer s (Read a n))) _ [] t
     ]
-
--- a work buffer of more than 4,096 bytes serves as one of 4,096
-scrub-longer : (s : State) (a w : ℕ) → 4096 ≤ w → answer s (Scrub a w) ≡ answer s (Scrub a 4096)
-scrub-longer s a w h = rw (le-leb 4096 w h) refl
-
-mark-longer : (s : State) (b w : ℕ) → 4096 ≤ w → answer s (Mark b w) ≡ answer s (Mark b 4096)
-mark-longer s b w h = rw (le-leb 4096 w h) refl
-
-module _ {X : Type 0} (G : Ghosts X) (b t : Board X) (r : Answer) (w : ℕ) (long : 4096 ≤ w) where
-  pub scrub-with-more : (a : ℕ) → Did G b (Scrub a 4096) r t → Did G b (Scrub a w) r t
-  scrub-with-more a d =
-      let e = scrub-longer (state G b) a w long in
-      record {
-        answers = d .answers ∙ sym e;
-        puts = subst (λ o. InOrder (G .means) (G .puts) (b .stack) (cond (accepted o) (along (plan (state G b) (Scrub a w)) (counting 0 (G .means (b .stack) .size))) []) (t .stack)) (sym e) (d .puts);
-        marks = d .marks;
-      }
-
-  pub mark-with-more : (m : ℕ) → Did G b (Mark m 4096) r t → Did G b (Mark m w) r t
-  mark-with-more m d =
-      let e = mark-longer (state G b) m w long in
-      record {
-        answers = d .answers ∙ sym e;
-        puts = subst (λ o. InOrder (G .means) (G .puts) (b .stack) (cond (accepted o) (along (plan (state G b) (Mark m w)) (counting 0 (G .means (b .stack) .size))) []) (t .stack)) (sym e) (d .puts);
-        marks = d .marks ∙ ap (λ o. cond (accepted o) (listed (b .marks) ++ m ∷ []) (listed (b .marks))) (sym e);
-      }
 
 some-same : (A B : List ℕ) → Some A ≡ Some B → A ≡ B
 some-same A B e = cc
@@ -77,12 +47,3 @@ pub compared : (s t : State) (a : ℕ) (A B : List ℕ) (f g : Finding) (r : Boo
     → Decides r (A ≡ B) → Exactly-when (T r) (Hands-out-equal s t a)
 compared s t a A B f g true p q d = record { only = λ _. sym (ap line-handed p) ∙ ap Some (d .0 refl) ∙ ap line-handed q; whenever = λ _. tt }
 compared s t a A B f g false p q d = record { only = λ x. absurd x; whenever = λ e. absurd (false≢true (d .1 (some-same A B (ap line-handed p ∙ e ∙ sym (ap line-handed q))))) }
-
--- a test answered
-pub test-true : (r : Bool) → r ≡ true → T r
-test-true true e = tt
-test-true false e = absurd (false≢true e)
-
-pub test-false : (r : Bool) → r ≡ false → T r → ⊥
-test-false true e x = absurd (true≢false e)
-test-false false e x = x

@@ -1,7 +1,8 @@
 -- Lists of calls as a host gives them, with the answers that it got.
+use mathlib.Core.Path.{_≡_}
 use mathlib.Core.List.{List, [], _∷_}
 use Prim.Native.Nat.{ℕ, zero, suc, min}
-use lib.ListN.{length, getD}
+use lib.ListN.{length, getD, drop}
 use denote.Ref.{RefT, now}
 use Rattle.rules.specs.Rules.{HostCall}
 use Rattle.rules.specs.History.{Event}
@@ -21,11 +22,18 @@ heard (Mark b w) = Mark b w
 heard Settle = Settle
 heard Pass = Pass
 
+abbrev pub Calls : Type 0
+Calls = List (Call (RefT (List ℕ)))
+
 -- the first n calls and answers, the latest first
-unfoldable pub first-events : List (Call (RefT (List ℕ))) → List Answer → ℕ → List Event
+unfoldable pub first-events : Calls → List Answer → ℕ → List Event
 first-events calls answers zero = []
 first-events calls answers (suc n) = record { call = heard (getD calls n (Read 0 0)); answer = getD answers n Done } ∷ first-events calls answers n
 
 -- as many calls as there is room for answers
-abbrev pub events : List (Call (RefT (List ℕ))) → List Answer → List Event
+abbrev pub events : Calls → List Answer → List Event
 events calls answers = first-events calls answers (min (length calls) (length answers))
+
+-- answers that no call was left for stay
+abbrev pub Leaves-rest : Calls → List Answer → List Answer → Type 0
+Leaves-rest calls before after = drop (length calls) after ≡ drop (length calls) before

@@ -8,9 +8,12 @@ use Rattle.stack.specs.declared.memory.Stack.{Ghosts}
 use Rattle.rules.specs.Rules.{State, answer}
 use Rattle.rules.specs.History.{Event, None-named, Tolerable, ledger}
 use Rattle.rules.specs.Theorem.{Equal, Reads-back, Same-lines, line-handed}
+use Rattle.rules.specs.declared.calls.Answer.{Answer}
 use Rattle.rules.specs.declared.calls.Call.the-variants.{Read}
 use Rattle.board.specs.State.{state}
 use Rattle.board.specs.declared.board.Board.{Board}
+use Rattle.rehearsal.specs.declared.Rehearsal.{Rehearsal}
+use Rattle.rehearsal.specs.Events.{Calls, events}
 use Rattle.rehearsal.specs.Traces.{Refused-as-ruled, Tolerated, Trace}
 
 -- reads into 64 bytes hand out the same line at an address, or both none
@@ -52,3 +55,7 @@ module _ {X Y : Type 0} (G : Ghosts X) (H : Ghosts Y) (x : X) (y : Y) (a : Board
     pub ran′ : Trace H y b fs
     pub compared : Exactly-when (T equal) (Reads-equal (state G a) (state H b))
     pub theorem : (run : Trace G x a es) (run′ : Trace H y b fs) → Comparable run run′ → Conclusion equal run run′
+
+-- the same of a rehearsal's result, the calls given and the answers got
+abbrev pub Rehearses : {X Y : Type 0} → Ghosts X → Ghosts Y → X → Y → Rehearsal X Y → Calls → List Answer → Calls → List Answer → Type 0
+Rehearses G H x y r cs told ds said = Rehearsed G H x y (r .first) (r .second) (events cs told) (events ds said) (r .equal)

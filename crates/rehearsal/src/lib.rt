@@ -1,8 +1,5 @@
 // Lists of calls rehearsed on two boards, and the two compared.
-ghost use mathlib.Core.Path.{_≡_};
-ghost use Prim.Native.Nat.{_<_};
-ghost use Rattle.rehearsal.specs.Events.{events};
-ghost use Rattle.rehearsal.specs.Theorem.{Rehearsed};
+ghost use Rattle.rehearsal.specs.Theorem.{Rehearses};
 
 pub mod comparing;
 pub mod running;
@@ -24,18 +21,18 @@ pub struct Rehearsal<A: Stack, B: Stack> {
 
 // Formats both stacks, runs a list of calls on each (as many as there is room for answers), and compares the lines that reads hand out.
 pub fn rehearse<A: Stack, B: Stack>(
-    first: A,
+    a: A,
     calls: &[Call<&[u8]>],
     answers: &mut [Answer],
-    second: B,
+    b: B,
     others: &[Call<&[u8]>],
     replies: &mut [Answer],
 ) -> Rehearsal<A, B>
-    ensures the_main_theorem_holds { λ r. ⌜ Rehearsed A·Stack B·Stack first second (r .first) (r .second) (events (now (calls .entry)) (now (answers .exit))) (events (now (others .entry)) (now (replies .exit))) (r .equal) ⌝ }
+    ensures main_theorem { λ r. ⌜ Rehearses A·Stack B·Stack a b r (now (calls .entry)) (now (answers .exit)) (now (others .entry)) (now (replies .exit)) ⌝ }
 {
-    let mut left = Board::format(first);
+    let mut left = Board::format(a);
     run(&mut left, calls, answers);
-    let mut right = Board::format(second);
+    let mut right = Board::format(b);
     run(&mut right, others, replies);
     let equal = same_lines(&left, &right);
     Rehearsal {

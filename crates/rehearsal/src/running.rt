@@ -1,12 +1,9 @@
 // Calls given as values, and lists of them.
 ghost use mathlib.Core.Path.{_≡_};
-ghost use mathlib.Core.List.{List};
-ghost use Prim.Native.Nat.{ℕ, _<_, _≤_, min};
-ghost use lib.ListN.{length, drop};
 ghost use Rattle.rules.specs.Rules.{answer};
 ghost use Rattle.rules.specs.declared.calls.Call.the-variants.{Read as ReadCall, Scrub as ScrubCall, Mark as MarkCall};
 ghost use Rattle.board.specs.State.{state, Did};
-ghost use Rattle.rehearsal.specs.Events.{heard, events};
+ghost use Rattle.rehearsal.specs.Events.{heard, events, Leaves-rest};
 ghost use Rattle.rehearsal.specs.Traces.{Called, Ran-on};
 use board::board::Board;
 use rules::calls::Answer;
@@ -16,7 +13,7 @@ use stack::memory::Stack;
 // Runs calls on a board, as many as there is room for answers, and collects the answers.
 pub fn run<S: Stack>(board: &mut Board<S>, calls: &[Call<&[u8]>], answers: &mut [Answer])
     ensures runs_in_order { λ _. ⌜ Ran-on S·Stack (now (board .entry)) (events (now (calls .entry)) (now (answers .exit))) (now (board .exit)) ⌝ }
-    ensures leaves_the_other_answers { λ _. ⌜ drop (length (now (calls .entry))) (now (answers .exit)) ≡ drop (length (now (calls .entry))) (now (answers .entry)) ⌝ }
+    ensures leaves_the_other_answers { λ _. ⌜ Leaves-rest (now (calls .entry)) (now (answers .entry)) (now (answers .exit)) ⌝ }
 {
     for i in 0..calls.len().min(answers.len()) {
         answers[i] = perform(board, &calls[i]);

@@ -101,7 +101,7 @@ module _ {X : Type 0} (G : Ghosts X) where
       (ap (λ o. or-refused o (or-refused (by-partner a (lowest s (partners ms a))) Renewed)) passed ∙ ap (λ o. or-refused (by-partner a o) Renewed) q) refl m
       (subst (λ ps. InOrder (G .means) (G .puts) x ps y) (sym same) ch)
 
--- refusals by the argument checks of write and renew, and inside
+-- refusals of write and renew, by their argument checks and past them
 module _ (m : Meaning) (ms : List ℕ) (a : ℕ) (l : List ℕ) where
   pub write-address : m .size ≤ index-of a → answer (board m ms) (Write a l) ≡ Refused AddressOutOfRange
   write-address h = rw (le-ltb a (64 * m .size) (omega arith)) refl

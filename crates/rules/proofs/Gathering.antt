@@ -1,4 +1,4 @@
--- The partners' decodings, one after the other.
+-- The partners' words decoded, one after the other.
 use mathlib.Core.Path.{_≡_, refl, sym, _∙_, ap, ap₂, subst}
 use mathlib.Core.Bool.{Bool, true, false, cond}
 use mathlib.Core.List.{List, [], _∷_, _++_}
@@ -78,10 +78,6 @@ lowest-append s (p ∷ ps) qs e =
 pub xor-append : (f : ℕ → ℕ) (ps qs : List ℕ) → xor-over f (ps ++ qs) ≡ bitXor (xor-over f ps) (xor-over f qs)
 xor-append f [] qs = sym (xor-zero-l (xor-over f qs))
 xor-append f (p ∷ ps) qs = ap (bitXor (f p)) (xor-append f ps qs) ∙ sym (xor-assoc (f p) (xor-over f ps) (xor-over f qs))
-
--- byte k that decoding an address gives
-abbrev byte-at : State → ℕ → ℕ → ℕ
-byte-at s k p = getD (line-decoded (decoded s p)) k 0
 
 -- what a sum has once the partners below lo + n were taken in, none of them uncorrectable
 pub record Gathered (s : State) (i b lo n : ℕ) (was sum : List ℕ) : Type 0 where

@@ -21,6 +21,19 @@ Valid (m ∷ []) = m < 64
 Valid (m ∷ n ∷ []) = (m < 64) × (n < 64) × (n ≡ m → ⊥)
 Valid (m ∷ n ∷ x ∷ xs) = ⊥
 
+-- the same but for a bank marked twice
+abbrev pub Low : List ℕ → Type 0
+Low [] = Unit {0}
+Low (m ∷ []) = m < 64
+Low (m ∷ n ∷ []) = (m < 64) × (n < 64)
+Low (m ∷ n ∷ x ∷ xs) = ⊥
+
+valid-low : (ms : List ℕ) → Valid ms → Low ms
+valid-low [] v = tt
+valid-low (m ∷ []) v = v
+valid-low (m ∷ n ∷ []) v = (v .0, v .1)
+valid-low (m ∷ n ∷ x ∷ xs) v = v
+
 abbrev pub groups : List ℕ → ℕ
 groups [] = 2
 groups (m ∷ ms) = 1
@@ -101,14 +114,14 @@ unmarked-sound ms b h p s =
     (λ e. (omega (arith, ltb-true b 70 e, ltb-false b 68 e₂), s (ltb-false b 68 e₂) (ltb-true b 70 e)))
     (λ e₃. let k : b < 70 + groups ms = p (ltb-false b 70 e₃) in omega (arith, ltb-false b 70 e₃, k))))
 
-pub role-sound : (ms : List ℕ) → Valid ms → (b : ℕ) → b < 72 → Real ms (role ms b)
+pub role-low : (ms : List ℕ) → Low ms → (b : ℕ) → b < 72 → Real ms (role ms b)
 unfolding role
-role-sound [] v b h = unmarked-sound [] b h (λ _. omega arith) (λ _ _. refl)
-role-sound (m ∷ []) v b h =
+role-low [] v b h = unmarked-sound [] b h (λ _. omega arith) (λ _ _. refl)
+role-low (m ∷ []) v b h =
     cond-both (eqb b m) Retired _ (Real (m ∷ [])) (λ e. tt)
     (λ e₁. cond-both (eqb b 71) (Line m) _ (Real (m ∷ [])) (λ e. v)
     (λ e₂. unmarked-sound (m ∷ []) b h (λ l. let n : b ≡ 71 → ⊥ = eqb-false b 71 e₂ in omega arith) (λ _ _. refl)))
-role-sound (m ∷ n ∷ []) v b h =
+role-low (m ∷ n ∷ []) v b h =
     cond-both (eqb b m) Retired _ (Real (m ∷ n ∷ [])) (λ e. tt)
     (λ e₁. cond-both (eqb b n) Retired _ (Real (m ∷ n ∷ [])) (λ e. tt)
     (λ e₂. cond-both (eqb b 71) (Line m) _ (Real (m ∷ n ∷ [])) (λ e. v .0)
@@ -117,7 +130,10 @@ role-sound (m ∷ n ∷ []) v b h =
     (λ e₅. unmarked-sound (m ∷ n ∷ []) b h
     (λ l. let k : b ≡ 71 → ⊥ = eqb-false b 71 e₃ in omega arith)
     (λ l u. let k : b ≡ 69 → ⊥ = eqb-false b 69 e₄ in let j : b ≡ 68 → ⊥ = eqb-false b 68 e₅ in absurd (omega arith)))))))
-role-sound (m ∷ n ∷ x ∷ xs) v b h = absurd v
+role-low (m ∷ n ∷ x ∷ xs) v b h = absurd v
+
+pub role-sound : (ms : List ℕ) → Valid ms → (b : ℕ) → b < 72 → Real ms (role ms b)
+role-sound ms v b h = role-low ms (valid-low ms v) b h
 
 -- the banks of a group
 pub record Member (ms : List ℕ) (g x : ℕ) : Type 0 where

@@ -40,9 +40,9 @@ pub checks-passed : (o : Option Refusal) (r : Answer) → accepted (or-refused o
 checks-passed (Some e) r h = absurd (false≢true h)
 checks-passed None r h = refl
 
-pub beyond-checks : (o : Option Refusal) (r : Answer) → o ≡ None → accepted (or-refused o r) ≡ true → accepted r ≡ true
-beyond-checks (Some e) r q h = absurd (false≢true h)
-beyond-checks None r q h = h
+pub past-passed : (o : Option Refusal) (r : Answer) → o ≡ None → accepted (or-refused o r) ≡ true → accepted r ≡ true
+past-passed (Some e) r q h = absurd (false≢true h)
+past-passed None r q h = h
 
 some-none : {X : Type 0} (x : X) → Some x ≡ None → ⊥
 some-none x e = let z : _≡_ {A = ℕ} 0 1 = cc in omega arith
@@ -181,7 +181,7 @@ module _ (s t : State) (B : Ledger) (A : Agrees s B) where
       ∙ ap (λ z. bitXor z (getD l k 0)) (ap (λ z. bitXor z x) (xor-comm x W) ∙ xor-assoc W x x ∙ ap (bitXor W) (xor-self x) ∙ xor-zero-r W)
       ∙ xor-comm W (getD l k 0))
 
-  -- a renewal that is accepted: decoding every partner gives its line
+  -- a renewal that is accepted: decoding gives every partner's line
   seen-all : (N : ℕ → Type 0) → Tolerable N s → ((b : ℕ) → N b → ⊥) → (ps : List ℕ) → Each (λ p. p < 64 * s .size) ps → lowest s ps ≡ None
       → Each (Seen s B A) ps
   unfolding lowest
@@ -219,7 +219,7 @@ module _ (s t : State) (B : Ledger) (A : Agrees s B) where
       let d2 = unless-open (eqb (length l) 64) _ None (d .1) in
       let n : length l ≡ 64 = eqb-true (length l) 64 (d2 .0) in
       let low : lowest s (partners (s .marks) a) ≡ None =
-      by-partner-none a _ (checks-passed _ _ (beyond-checks (argument-check (s .size) (s .marks) (Renew a l)) (past-checks s (Renew a l)) o e)) in
+      by-partner-none a _ (checks-passed _ _ (past-passed (argument-check (s .size) (s .marks) (Renew a l)) (past-checks s (Renew a l)) o e)) in
       let seen = seen-all (Named (Renew a l)) tolerable (λ b x. x) (partners (s .marks) a) (partners-in-range a ha) low in
       let f : ℕ → ℕ = λ k. bitXor (getD l k 0) (partners-byte s a k) in
       store-keeps (Renew a l) r a l (map f (counting 0 64)) st (st .marks) n (st .given) (length-map-counting f 0 64)

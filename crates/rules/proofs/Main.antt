@@ -34,16 +34,16 @@ agrees s _ (fresh f) = formatted s f
 agrees t _ (next {s = s} {es = es} {c = c} {r = r} run tolerable st) = call-keeps s t (ledger es) (agrees s es run) c r tolerable st
 
 module _ (s : State) (B : Ledger) (A : Agrees s B) where
-  check-passed : (t : Bool) (n : Refusal) (rest : Option Refusal) → t ≡ true → rest ≡ None → unless t n rest ≡ None
-  check-passed true n rest e q = q
-  check-passed false n rest e q = absurd (let z : _≡_ {A = ℕ} 0 1 = cc in omega arith)
+  unless-let : (t : Bool) (n : Refusal) (rest : Option Refusal) → t ≡ true → rest ≡ None → unless t n rest ≡ None
+  unless-let true n rest e q = q
+  unless-let false n rest e q = absurd (let z : _≡_ {A = ℕ} 0 1 = cc in omega arith)
 
   -- a read in range hands out the line in the ledger
   pub read-back : Tolerable None-named s → (a : ℕ) → a < 64 * s .size → (f : Finding) × (answer s (Read a 64) ≡ HandedOut (B .lines a) f)
   read-back tolerable a h =
       let r = reading-right s B A None-named tolerable a h (λ x. x) in (
         r .0,
-        ap (λ o. or-refused o (read-answer (reading s a))) (check-passed (ltb a (64 * s .size)) AddressOutOfRange None (lt-ltb a (64 * s .size) h) refl)
+        ap (λ o. or-refused o (read-answer (reading s a))) (unless-let (ltb a (64 * s .size)) AddressOutOfRange None (lt-ltb a (64 * s .size) h) refl)
             ∙ ap read-answer (r .1),
       )
 
@@ -60,7 +60,7 @@ module _ (s : State) (B : Ledger) (A : Agrees s B) where
       (each-map (Member ms g) (λ x. 64 * index-of a + x < 64 * s .size) (members ms g) (λ x w. let lo = w .low in omega arith)
       (each-member ms g (group-fits ms (bank-of a) (omega arith))))
 
-  -- beside tolerable damage, uncorrectable means more than one wrong symbol
+  -- under tolerable damage, uncorrectable means more than one wrong symbol
   lowest-is : (N : ℕ → Type 0) → Tolerable N s → ((b : ℕ) → N b → ⊥) → (ps : List ℕ) → Each (λ p. p < 64 * s .size) ps → lowest s ps ≡ lowest-damaged s ps
   unfolding lowest
   lowest-is N tolerable no-name [] h = refl

@@ -17,7 +17,8 @@ use Rattle.rules.proofs.Keeping.{unless-open}
 use Rattle.rules.proofs.Local.{reading-local, rebuilding-local}
 use Rattle.rules.proofs.Loading.{first-append, first-some, first-part}
 use Rattle.rules.proofs.Gathering.{counting-split}
-use Rattle.rules.proofs.Rows.{Low, role-low, map-same, banks-cong, along-out}
+use Rattle.rules.proofs.Rows.{map-same, banks-cong, along-out}
+use Rattle.rules.proofs.Geometry.{Low, role-low}
 use Rattle.rules.proofs.Calling.{call-done, index-more}
 use Rattle.rules.specs.Boards.{board}
 use Rattle.rules.specs.History.{Step}
@@ -191,11 +192,6 @@ lower-real (m ∷ ms) = omega arith
 pub spare-real : (ms : List ℕ) → spare-of ms < 72
 spare-real [] = omega arith
 spare-real (m ∷ ms) = omega arith
-
-pub row-made : (nx : List ℕ) → Low nx → (g : ℕ → Outcome) (j bank : ℕ) (w r : List ℕ) → bank < 72 → Loaded g j 0 64 w → length r ≡ 64
-    → ((k : ℕ) → k < 64 → getD r k 0 ≡ image nx (slots w) bank j k) → r ≡ row nx (λ x. line-of (g x)) j bank
-row-made nx low g j bank w r h load l e =
-    fill-by-all (λ k. image nx (slots w) bank j k) r 64 0 l e ∙ row-loaded nx low g j bank w h load
 
 pub pieces-put : {X : Type 0} (step : X → Piece → X → Type 0) (ms : List ℕ) (f : ℕ → List ℕ) (j : ℕ) (x y z : X) (p q : ℕ) (r t : List ℕ)
     → p ≡ lower ms → q ≡ spare-of ms → r ≡ f (lower ms) → t ≡ f (spare-of ms)

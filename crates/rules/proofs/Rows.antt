@@ -26,45 +26,12 @@ use Rattle.rules.proofs.Geometry.{groups, Real, Member, each-member}
 use Rattle.rules.proofs.Gathering.{counting-split, xor-append}
 use Rattle.codec.specs.Check.{check}
 use Rattle.codec.specs.Word.{distance}
-use Rattle.rules.specs.Places.{group-count, group-start, image-by, members, role, short, unmarked-role, xor-over}
+use Rattle.rules.specs.Places.{group-count, group-start, image-by, members, xor-over}
 use Rattle.rules.specs.Rules.{Part, along, along-banks, otherwise, otherwise-part, piece-at, row}
 use Rattle.rules.specs.Work.{slot, slots}
 use Rattle.rules.specs.declared.roles.Role.the-variants.{Fifth, First, Line, Parity, Retired, Second}
 use Rattle.stack.specs.Memory.{Contents, Piece, covers, piece}
 use Rattle.stack.specs.Pieces.{covered}
-
--- marked banks are below 64
-abbrev pub Low : List ℕ → Type 0
-Low [] = Unit {0}
-Low (m ∷ []) = m < 64
-Low (m ∷ n ∷ []) = (m < 64) × (n < 64)
-Low (m ∷ n ∷ x ∷ xs) = ⊥
-
-unmarked-low : (ms : List ℕ) (b : ℕ) → b < 72 → (70 ≤ b → b < 70 + groups ms) → (68 ≤ b → b < 70 → short ms ≡ false) → Real ms (unmarked-role b)
-unmarked-low ms b h p s =
-    cond-both (ltb b 64) (Line b) _ (Real ms) (λ e. ltb-true b 64 e)
-    (λ e₁. cond-both (ltb b 68) (First (b - 64)) _ (Real ms) (λ e. omega (arith, ltb-true b 68 e, ltb-false b 64 e₁))
-    (λ e₂. cond-both (ltb b 70) (Second (b - 68)) _ (Real ms)
-    (λ e. (omega (arith, ltb-true b 70 e, ltb-false b 68 e₂), s (ltb-false b 68 e₂) (ltb-true b 70 e)))
-    (λ e₃. let k : b < 70 + groups ms = p (ltb-false b 70 e₃) in omega (arith, ltb-false b 70 e₃, k))))
-
-pub role-low : (ms : List ℕ) → Low ms → (b : ℕ) → b < 72 → Real ms (role ms b)
-unfolding role
-role-low [] v b h = unmarked-low [] b h (λ _. omega arith) (λ _ _. refl)
-role-low (m ∷ []) v b h =
-    cond-both (eqb b m) Retired _ (Real (m ∷ [])) (λ e. tt)
-    (λ e₁. cond-both (eqb b 71) (Line m) _ (Real (m ∷ [])) (λ e. v)
-    (λ e₂. unmarked-low (m ∷ []) b h (λ l. let n : b ≡ 71 → ⊥ = eqb-false b 71 e₂ in omega arith) (λ _ _. refl)))
-role-low (m ∷ n ∷ []) v b h =
-    cond-both (eqb b m) Retired _ (Real (m ∷ n ∷ [])) (λ e. tt)
-    (λ e₁. cond-both (eqb b n) Retired _ (Real (m ∷ n ∷ [])) (λ e. tt)
-    (λ e₂. cond-both (eqb b 71) (Line m) _ (Real (m ∷ n ∷ [])) (λ e. v .0)
-    (λ e₃. cond-both (eqb b 69) (Line n) _ (Real (m ∷ n ∷ [])) (λ e. v .1)
-    (λ e₄. cond-both (eqb b 68) Fifth _ (Real (m ∷ n ∷ [])) (λ e. refl)
-    (λ e₅. unmarked-low (m ∷ n ∷ []) b h
-    (λ l. let k : b ≡ 71 → ⊥ = eqb-false b 71 e₃ in omega arith)
-    (λ l u. let k : b ≡ 69 → ⊥ = eqb-false b 69 e₄ in let j : b ≡ 68 → ⊥ = eqb-false b 68 e₅ in absurd (omega arith)))))))
-role-low (m ∷ n ∷ x ∷ xs) v b h = absurd v
 
 group-members : (ms : List ℕ) (q : ℕ) → counting (group-start ms (32 * q)) (group-count ms) ≡ members ms q
 group-members [] q = let e : 32 * (32 * q / 32) ≡ 32 * q = omega arith in ap (λ n. counting n 32) e

@@ -16,7 +16,8 @@ use native.Mathlib.Numerals.{add-one}
 use Rattle.std.proofs.shelf.Counted.{length-map-counting}
 use Rattle.rules.proofs.Laying.{along-one}
 use Rattle.rules.proofs.Image.{image-cong, inside-of}
-use Rattle.rules.proofs.Rows.{Low, role-low, map-same, banks-cong, banks-out, otherwise-cong, otherwise-more}
+use Rattle.rules.proofs.Rows.{map-same, banks-cong, banks-out, otherwise-cong, otherwise-more}
+use Rattle.rules.proofs.Geometry.{Low, role-low}
 use Rattle.rules.proofs.Calling.{call-done}
 use Rattle.codec.specs.Word.{distance}
 use Rattle.rules.specs.Boards.{board}

@@ -1,4 +1,4 @@
--- One call of a board, whole lists of them, and the ledger that a host would keep.
+-- One call of a board, whole lists of them, and the ledger that a host would keep of them.
 use mathlib.Core.Path.{_≡_}
 use mathlib.Core.Bool.{Bool, true, false, cond, _&&_}
 use mathlib.Core.List.{List, [], _∷_, _++_}
@@ -16,7 +16,7 @@ use Rattle.rules.specs.declared.calls.Call.the-variants.{Clear, Mark, Pass, Re
 use Rattle.stack.specs.Memory.{Place}
 use Rattle.stack.specs.Pieces.{after, covered}
 
--- THE LEDGER
+-- THE LEDGER: the line that each address last accepted, and the marked banks
 
 pub record Ledger : Type 0 where
   pub lines : ℕ → List ℕ
@@ -48,7 +48,7 @@ unfoldable pub ledger : List Event → Ledger
 ledger [] = blank
 ledger (e ∷ es) = cond (accepted (e .answer)) (enter (ledger es) (e .call)) (ledger es)
 
--- DAMAGE
+-- DAMAGE: a symbol is wrong when its place shows another byte than it keeps
 
 abbrev pub wrong-line : State → ℕ → ℕ
 wrong-line s a = distance (line-in (s .marks) (s .kept) a) (line-in (s .marks) (s .shown) a)
@@ -75,7 +75,8 @@ pub record Grouped (marks : List ℕ) (a x : ℕ) : Type 0 where
   pub index : index-of a ≡ index-of x
   pub group : group-of marks (bank-of a) ≡ group-of marks (bank-of x)
 
--- Damage is tolerable before a call. `N` says which bank the call is about to retire, if any: its words are
+-- Damage is tolerable before a call: in each group at most one word has more than one wrong symbol, and that at most four, one of
+-- them in its check at most, and the parity line none. `N` says which bank the call is about to retire, if any: its words are
 -- the one word of their groups that may have more than one wrong symbol, and their lines are not counted.
 pub record Tolerable (N : ℕ → Type 0) (s : State) : Type 0 where
   pub one : (a x : ℕ) → a < 64 * s .size → x < 64 * s .size → Grouped (s .marks) a x
@@ -139,7 +140,7 @@ pub record Formatted (s : State) : Type 0 where
   pub zero : (b i k : ℕ) → Place (s .size) b i k → s .kept b i k ≡ 0
   pub bytes : (b i k : ℕ) → Place (s .size) b i k → s .shown b i k < 256
 
--- a board newly formatted and then reached by calls and nothing else, the damage tolerable before each
+-- a board newly formatted and then led on by calls and nothing else, the damage tolerable before each
 pub data History : State → List Event → Type 0 where
   fresh : {s : State} → Formatted s → History s []
   next : {s t : State} {es : List Event} {c : HostCall} {r : Answer}

@@ -71,7 +71,7 @@ abbrev pub line-decoded : Decoded → List ℕ
 line-decoded (found l f) = l
 line-decoded uncorrectable = []
 
--- what decoding the word of an address gives
+-- what decoding the shown word of an address gives
 unfoldable pub decoded : State → ℕ → Decoded
 decoded s a = decoding (line-in (s .marks) (s .shown) a ++ check-in (s .marks) (s .shown) a)
 

@@ -55,7 +55,7 @@ abbrev pub lowest-damaged : State → List ℕ → Option ℕ
 lowest-damaged s [] = None
 lowest-damaged s (p ∷ ps) = cond (leb 2 (wrong s p)) (Some p) (lowest-damaged s ps)
 
--- What the rules refuse of a call that meets tolerable damage: what an argument check refuses, and a renewal beside a partner
+-- What the rules refuse of a call that meets tolerable damage: what its argument checks refuse, and a renewal beside a partner
 -- with more than one wrong symbol.
 abbrev pub inside-refusal : State → HostCall → Option Refusal
 inside-refusal s (Read a n) = None

@@ -40,7 +40,7 @@ scrubbing marks b lines j bank = when (of-group marks (group-of marks b) (role m
 abbrev pub filling : List ℕ → ℕ → (ℕ → List ℕ) → ℕ → ℕ → Option Part
 filling marks b lines j bank = when (filled marks bank) (part 0 (row (marks ++ b ∷ []) lines j bank))
 
--- the line of an address, rebuilt if its bank is the one to be retired, else read
+-- the line of an address, rebuilt if its bank is to be retired, else read
 abbrev pub taken : State → Option ℕ → ℕ → Outcome
 taken s (Some b) a = for-mark s b a
 taken s None a = reading s a

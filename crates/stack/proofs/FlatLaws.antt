@@ -1,19 +1,19 @@
 -- What a fetch from flat bytes gives, and what a put into them leaves.
-use mathlib.Core.Path.{_≡_, refl, sym, ap, _∙_, subst}
-use mathlib.Core.Bool.{Bool, true, false, cond, _&&_}
+use mathlib.Core.Path.{_≡_, sym, ap, _∙_, subst}
+use mathlib.Core.Bool.{true, false, _&&_}
 use mathlib.Core.Logic.{_⊎_, inl, inr, ⊎-elim}
-use mathlib.Core.List.{List, _++_}
+use mathlib.Core.List.{List}
 use Prim.Native.Nat.{ℕ, _+_, _-_, _*_, _/_, _%_, _<_, _≤_}
 use native.Mathlib.Omega.{arith}
 use borrow.Author.Needs.{needs}
 use lib.ListN.{length, getD, take, drop}
 use lib.Dec.{eqb, leb}
 use Rattle.std.proofs.shelf.Tests.{cond-both, cases-bool, cases-lt, cases-order, both-ways}
-use Rattle.std.proofs.shelf.Bits.{mul-add-lt, div-mul-add, mod-mul-add}
+use Rattle.std.proofs.shelf.Bits.{div-mul-add, mod-mul-add}
 use Rattle.std.proofs.shelf.Lists.{length-take, length-drop, length-append, getD-take, getD-drop, getD-default, places}
-use Rattle.stack.specs.Memory.{Place, Piece, Put, Fits, covers, over, cells, outside}
+use Rattle.stack.specs.Memory.{Place, Piece, Put, covers, over, cells}
 use Rattle.stack.specs.Flat.{size-of, place, flat, flat-means, written, Start}
-use Rattle.stack.proofs.PieceLaws.{Within, covered-at, covers-from, over-on, over-off, is-cells, inside}
+use Rattle.stack.proofs.PieceLaws.{covered-at, covers-from, over-on, over-off, is-cells}
 
 pub size-bytes : (n : ℕ) → size-of n * 4608 ≤ n
 size-bytes n =

@@ -1,11 +1,9 @@
 -- What it says of a piece that it lies in a memory.
 use mathlib.Core.Path.{_≡_, refl, sym, ap, _∙_}
 use mathlib.Core.Bool.{Bool, true, false, cond}
-use mathlib.Core.Logic.{⊎-elim}
 use mathlib.Core.List.{List}
 use Prim.Native.Nat.{ℕ, _+_, _-_, _<_, _≤_}
 use native.Mathlib.Omega.{arith}
-use lib.Dec.{eqb, ltb, leb}
 use lib.ListN.{length, getD}
 use Rattle.std.proofs.shelf.Tests.{or-parts, or-from, and-parts, and-from, ltb-false, leb-false, eqb-false, le-ltb, lt-leb, ne-eqb, eqb-true, eq-eqb, leb-true, ltb-true, le-leb, lt-ltb, both-ways, cond-true, cond-false}
 use Rattle.std.proofs.shelf.Lists.{same-lists}

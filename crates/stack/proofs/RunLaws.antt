@@ -1,11 +1,11 @@
 -- What a run of puts leaves.
-use mathlib.Core.Path.{_≡_, refl, sym, ap, _∙_, subst}
-use mathlib.Core.Bool.{Bool, true, false, _||_}
+use mathlib.Core.Path.{_≡_, refl, sym, _∙_, subst}
+use mathlib.Core.Bool.{false}
 use mathlib.Core.List.{List, [], _∷_, _++_}
 use Prim.Native.Nat.{ℕ}
 use Rattle.std.proofs.shelf.Tests.{or-parts}
-use Rattle.stack.specs.Memory.{Contents, Place, Meaning, Piece, Put, covers, over}
-use Rattle.stack.specs.Pieces.{Accepted, Puts, done, more, InOrder, after, covered}
+use Rattle.stack.specs.Memory.{Contents, Place, Meaning, Piece, covers, over}
+use Rattle.stack.specs.Pieces.{Puts, done, more, InOrder, after, covered}
 use Rattle.stack.proofs.PieceLaws.{over-at}
 
 -- two runs, one after the other

@@ -1,6 +1,6 @@
 -- What a memory means: a size, and at every place (bank, index, byte) a kept and a shown byte.
 use mathlib.Core.Path.{_≡_}
-use mathlib.Core.Bool.{Bool, true, false, cond, _&&_, _||_}
+use mathlib.Core.Bool.{Bool, false, cond, _&&_, _||_}
 use mathlib.Core.List.{List, map}
 use Prim.Native.Nat.{ℕ, _+_, _-_, _<_, _≤_}
 use lib.ListN.{length, getD}
@@ -36,6 +36,7 @@ pub record Piece : Type 0 where
   pub from : ℕ
   pub bytes : List ℕ
 
+-- the piece of those bytes
 abbrev pub piece : ℕ → ℕ → ℕ → List ℕ → Piece
 piece b i k xs = record { bank = b; index = i; from = k; bytes = xs }
 

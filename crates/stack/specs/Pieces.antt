@@ -1,6 +1,6 @@
 -- Pieces put one after the other.
-use mathlib.Core.Bool.{Bool, true, false, _||_}
-use mathlib.Core.List.{List, [], _∷_, _++_}
+use mathlib.Core.Bool.{Bool, false, _||_}
+use mathlib.Core.List.{List, [], _∷_}
 use Prim.Native.Nat.{ℕ}
 use Rattle.stack.specs.Memory.{Contents, Meaning, Piece, Put, Rest, covers, over}
 

@@ -11,7 +11,7 @@ ghost use Rattle.rules.specs.Rules.{answer, along-banks, part, piece-at, when};
 ghost use Rattle.rules.specs.History.{Formatted, Given};
 ghost use Rattle.rules.specs.Work.{formatting, parity-after as parity-to-put};
 ghost use Rattle.rules.specs.declared.calls.Call.the-variants.{Write, Renew, Clear};
-ghost use Rattle.board.specs.State.{state, Ran, Puts-of, Marks-of, Format-run, Zeroed, stored-pieces, stored-piece, cleared-pieces};
+ghost use Rattle.board.specs.State.{Answers, state, Ran, Puts-of, Marks-of, Format-run, Zeroed, Stores, Stores-bank, cleared-pieces};
 ghost use Rattle.board.specs.Told.{told-write, told-renew, told-clear};
 use super::super::lines::xor_into;
 use super::super::marks::Marks;
@@ -39,7 +39,7 @@ impl<S: Stack> Board<S> {
 
     // Stores a line in place of the one that an address has, and says how the old one was come by.
     pub fn write(&mut self, address: usize, line: &[u8]) -> Result<Finding, Refusal>
-        ensures answers_as_ruled { λ r. ⌜ told-write r ≡ answer (state S·Stack (now (self .entry))) (Write address (now (line .entry))) ⌝ }
+        ensures answers_as_ruled { λ r. ⌜ Answers S·Stack (now (self .entry)) (Write address (now (line .entry))) (told-write r) ⌝ }
         ensures puts_as_ruled { λ _. ⌜ Puts-of S·Stack (now (self .entry)) (Write address (now (line .entry))) (now (self .exit)) ⌝ }
         ensures marks_as_ruled { λ _. ⌜ Marks-of S·Stack (now (self .entry)) (Write address (now (line .entry))) (now (self .exit)) ⌝ }
         ensures takes_bytes { λ _. ⌜ Given (Write address (now (line .entry))) ⌝ }
@@ -61,7 +61,7 @@ impl<S: Stack> Board<S> {
 
     // Stores a line whatever the address had; the parity line is made anew from the partners.
     pub fn renew(&mut self, address: usize, line: &[u8]) -> Result<(), Refusal>
-        ensures answers_as_ruled { λ r. ⌜ told-renew r ≡ answer (state S·Stack (now (self .entry))) (Renew address (now (line .entry))) ⌝ }
+        ensures answers_as_ruled { λ r. ⌜ Answers S·Stack (now (self .entry)) (Renew address (now (line .entry))) (told-renew r) ⌝ }
         ensures puts_as_ruled { λ _. ⌜ Puts-of S·Stack (now (self .entry)) (Renew address (now (line .entry))) (now (self .exit)) ⌝ }
         ensures marks_as_ruled { λ _. ⌜ Marks-of S·Stack (now (self .entry)) (Renew address (now (line .entry))) (now (self .exit)) ⌝ }
         ensures takes_bytes { λ _. ⌜ Given (Renew address (now (line .entry))) ⌝ }
@@ -82,7 +82,7 @@ impl<S: Stack> Board<S> {
 
     // Stores zeros for the whole group of an address.
     pub fn clear(&mut self, address: usize) -> Result<(), Refusal>
-        ensures answers_as_ruled { λ r. ⌜ told-clear r ≡ answer (state S·Stack (now (self .entry))) (Clear address) ⌝ }
+        ensures answers_as_ruled { λ r. ⌜ Answers S·Stack (now (self .entry)) (Clear address) (told-clear r) ⌝ }
         ensures puts_as_ruled { λ _. ⌜ Puts-of S·Stack (now (self .entry)) (Clear address) (now (self .exit)) ⌝ }
         ensures marks_as_ruled { λ _. ⌜ Marks-of S·Stack (now (self .entry)) (Clear address) (now (self .exit)) ⌝ }
     {
@@ -109,7 +109,7 @@ impl<S: Stack> Board<S> {
     // Stores a line, its check and the parity line, bank after bank.
     fn store(&mut self, address: usize, line: &[u8; 64], parity: &[u8; 64])
         requires in_range { ⌜ address / 64 < S·Stack .means (now self .stack) .size ⌝ }
-        ensures stores { λ _. ⌜ Ran S·Stack (now (self .entry)) (stored-pieces (now (self .entry)) address (now (line .entry)) (now (parity .entry))) (now (self .exit)) ⌝ }
+        ensures stores { λ _. ⌜ Stores S·Stack (now (self .entry)) address (now (line .entry)) (now (parity .entry)) (now (self .exit)) ⌝ }
     {
         let check = check_of(line);
         for bank in 0..72 {
@@ -129,7 +129,7 @@ impl<S: Stack> Board<S> {
         requires in_range { ⌜ address / 64 < S·Stack .means (now self .stack) .size ⌝ }
         requires real_bank { ⌜ bank < 72 ⌝ }
         requires its_check { ⌜ now check ≡ check-line (now line) ⌝ }
-        ensures stores { λ _. ⌜ Ran S·Stack (now (self .entry)) (stored-piece (now (self .entry)) address (now (line .entry)) (now (parity .entry)) bank) (now (self .exit)) ⌝ }
+        ensures stores { λ _. ⌜ Stores-bank S·Stack (now (self .entry)) address (now (line .entry)) (now (parity .entry)) bank (now (self .exit)) ⌝ }
     {
         let b = address % 64;
         let i = address / 64;

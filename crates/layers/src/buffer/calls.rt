@@ -1,3 +1,4 @@
+// The calls of a write buffer, and those of its table.
 ghost use mathlib.Core.Path.{_≡_};
 ghost use mathlib.Core.Bool.{false};
 ghost use mathlib.Core.List.{[], _∷_, _++_};

@@ -1,15 +1,19 @@
+// The calls of a fault injector, and those of its table.
 ghost use mathlib.Core.Path.{_≡_};
 ghost use mathlib.Core.List.{[], _∷_, _++_, map};
 ghost use Prim.Native.Nat.{_<_};
 ghost use lib.ListN.{length};
 ghost use Rattle.std.specs.shelf.Lists.{kept-by};
+ghost use Rattle.stack.specs.Firsts.{first-of};
 ghost use Rattle.layers.specs.Faults.{AgedAt, aged, corrupted, corrupted-all, faulty, faulty-sound, outlasts, struck};
 ghost use Rattle.layers.specs.Exact.{InjectorPasses, InjectorPuts, InjectorSettles, Struck};
 ghost use Rattle.layers.specs.Tables.{faults-in};
 use super::super::fault::Fault;
 use super::super::fault::FaultKind;
+use super::super::fault::FaultLocated;
 use super::FaultInjector;
 use super::FaultTable;
+use stack::located::first_at;
 use stack::memory::Stack;
 use stack::memory::is_outside;
 use stack::refusal::Refusal;
@@ -146,6 +150,13 @@ impl<S: Stack> FaultInjector<S> {
         ensures stands { λ r. ⌜ now r ≡ faults-in (now (self .entry) .table) ⌝ }
     {
         self.table.standing()
+    }
+
+    // Where the first fault of that bank and index stands among them, whether it acts or not.
+    pub fn first_fault(&self, bank: usize, index: usize) -> Option<usize>
+        ensures is_first { λ r. ⌜ r ≡ first-of (λ f. f .bank) (λ f. f .index) bank index (faults-in (now (self .entry) .table)) ⌝ }
+    {
+        first_at(self.table.standing(), bank, index)
     }
 
     // The memory below, without the faults.

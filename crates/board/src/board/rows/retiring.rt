@@ -8,7 +8,7 @@ ghost use Rattle.rules.specs.Rules.{answer};
 ghost use Rattle.rules.specs.Work.{Surveys, lowest-denied, markable};
 ghost use Rattle.rules.specs.declared.calls.Call.the-variants.{Mark};
 ghost use Rattle.board.specs.Marks.{listed};
-ghost use Rattle.board.specs.State.{state, Ran, Did, Puts-of, Marks-of, Obtainable, retired-pieces, all-retired-pieces, work-after};
+ghost use Rattle.board.specs.State.{Answers, state, Ran, Did, Puts-of, Marks-of, Obtainable, retired-pieces, all-retired-pieces, Work-of};
 ghost use Rattle.board.specs.Told.{told-mark};
 use super::super::super::bank::Bank;
 use super::super::super::lines::zero;
@@ -20,10 +20,10 @@ use stack::refusal::Refusal;
 impl<S: Stack> Board<S> {
     // Retires a bank, and answers the spare that has its lines from now on.
     pub fn mark(&mut self, bank: usize, work: &mut [u8]) -> Result<usize, Refusal>
-        ensures answers_as_ruled { λ r. ⌜ told-mark r ≡ answer (state S·Stack (now (self .entry))) (Mark bank (length (now (work .entry)))) ⌝ }
+        ensures answers_as_ruled { λ r. ⌜ Answers S·Stack (now (self .entry)) (Mark bank (length (now (work .entry)))) (told-mark r) ⌝ }
         ensures puts_as_ruled { λ _. ⌜ Puts-of S·Stack (now (self .entry)) (Mark bank (length (now (work .entry)))) (now (self .exit)) ⌝ }
         ensures marks_as_ruled { λ _. ⌜ Marks-of S·Stack (now (self .entry)) (Mark bank (length (now (work .entry)))) (now (self .exit)) ⌝ }
-        ensures zeroes_the_work_buffer { λ _. ⌜ now (work .exit) ≡ work-after S·Stack (now (self .entry)) (Mark bank (length (now (work .entry)))) (now (work .entry)) ⌝ }
+        ensures zeroes_the_work_buffer { λ _. ⌜ Work-of S·Stack (now (self .entry)) (Mark bank) (now (work .entry)) (now (work .exit)) ⌝ }
     {
         let Some(retired) = Bank::new(bank) else {
             return Err(Refusal::BankOutOfRange);

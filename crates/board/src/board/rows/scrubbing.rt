@@ -5,7 +5,7 @@ ghost use Prim.Native.Nat.{ℕ, _/_, _<_, _≤_};
 ghost use lib.ListN.{length};
 ghost use Rattle.rules.specs.Rules.{answer, otherwise-part, part, piece-at};
 ghost use Rattle.rules.specs.declared.calls.Call.the-variants.{Scrub};
-ghost use Rattle.board.specs.State.{state, Ran, Did, Puts-of, Marks-of, scrubbed-piece, scrubbed-pieces, scrubbed-count, scrubbed-total, work-after};
+ghost use Rattle.board.specs.State.{Answers, state, Ran, Did, Puts-of, Marks-of, Scrubs, Scrubs-bank, scrubbed-count, scrubbed-total, Work-of};
 ghost use Rattle.board.specs.Told.{told-scrub};
 use super::super::super::lines::differing;
 use super::super::super::lines::zero;
@@ -16,10 +16,10 @@ use stack::refusal::Refusal;
 impl<S: Stack> Board<S> {
     // Puts every line, check and the parity of an address's group anew, and counts the bytes that were shown otherwise.
     pub fn scrub(&mut self, address: usize, work: &mut [u8]) -> Result<usize, Refusal>
-        ensures answers_as_ruled { λ r. ⌜ told-scrub r ≡ answer (state S·Stack (now (self .entry))) (Scrub address (length (now (work .entry)))) ⌝ }
+        ensures answers_as_ruled { λ r. ⌜ Answers S·Stack (now (self .entry)) (Scrub address (length (now (work .entry)))) (told-scrub r) ⌝ }
         ensures puts_as_ruled { λ _. ⌜ Puts-of S·Stack (now (self .entry)) (Scrub address (length (now (work .entry)))) (now (self .exit)) ⌝ }
         ensures marks_as_ruled { λ _. ⌜ Marks-of S·Stack (now (self .entry)) (Scrub address (length (now (work .entry)))) (now (self .exit)) ⌝ }
-        ensures zeroes_the_work_buffer { λ _. ⌜ now (work .exit) ≡ work-after S·Stack (now (self .entry)) (Scrub address (length (now (work .entry)))) (now (work .entry)) ⌝ }
+        ensures zeroes_the_work_buffer { λ _. ⌜ Work-of S·Stack (now (self .entry)) (Scrub address) (now (work .entry)) (now (work .exit)) ⌝ }
     {
         if address / 64 >= self.stack.size() {
             return Err(Refusal::AddressOutOfRange);
@@ -47,7 +47,7 @@ impl<S: Stack> Board<S> {
     fn scrub_group(&mut self, b: usize, index: usize, work: &[u8]) -> usize
         requires in_range { ⌜ index < S·Stack .means (now self .stack) .size ⌝ }
         requires room { ⌜ length (now work) ≡ 4096 ⌝ }
-        ensures puts_anew { λ _. ⌜ Ran S·Stack (now (self .entry)) (scrubbed-pieces (now (self .entry)) b index (now (work .entry))) (now (self .exit)) ⌝ }
+        ensures puts_anew { λ _. ⌜ Scrubs S·Stack (now (self .entry)) b index (now (work .entry)) (now (self .exit)) ⌝ }
         ensures counts { λ r. ⌜ r ≡ scrubbed-total S·Stack (now (self .entry)) b index (now (work .entry)) ⌝ }
     {
         let mut count = 0;
@@ -62,7 +62,7 @@ impl<S: Stack> Board<S> {
         requires real_bank { ⌜ bank < 72 ⌝ }
         requires in_range { ⌜ index < S·Stack .means (now self .stack) .size ⌝ }
         requires room { ⌜ length (now work) ≡ 4096 ⌝ }
-        ensures puts_anew { λ _. ⌜ Ran S·Stack (now (self .entry)) (scrubbed-piece (now (self .entry)) b index (now (work .entry)) bank) (now (self .exit)) ⌝ }
+        ensures puts_anew { λ _. ⌜ Scrubs-bank S·Stack (now (self .entry)) b index (now (work .entry)) bank (now (self .exit)) ⌝ }
         ensures counts { λ r. ⌜ r ≡ scrubbed-count S·Stack (now (self .entry)) b index (now (work .entry)) bank ⌝ }
         ensures at_most_64 { λ r. ⌜ r ≤ 64 ⌝ }
     {

@@ -8,8 +8,8 @@ use Rattle.stack.proofs.RunLaws.{run-size}
 use Rattle.rules.specs.Rules.{first-denied, for-mark, along-banks, line-of, addresses}
 use Rattle.rules.specs.Boards.{board}
 use Rattle.rules.specs.Work.{filling}
+use Rattle.rules.proofs.Geometry.{Low}
 use Rattle.rules.proofs.Calling.{index-none}
-use Rattle.rules.proofs.Rows.{Low}
 use Rattle.rules.proofs.Retiring.{retire-none, retire-more}
 use Rattle.board.specs.Marks.{listed}
 use Rattle.board.proofs.Seeing.{listed-low}

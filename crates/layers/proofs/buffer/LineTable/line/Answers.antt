@@ -2,7 +2,7 @@ use mathlib.Core.Path.{sym, _∙_}
 use mathlib.Core.List.{[]}
 use Prim.Native.Nat.{_<_}
 use native.Mathlib.Omega.{arith}
-use lib.ListN.{length, getD, take}
+use lib.ListN.{length, getD}
 use Rattle.std.proofs.shelf.Lists.{length-take, getD-take, getD-default}
 use Rattle.layers.specs.declared.line.BufferedLine.{BufferedLine}
 use Rattle.layers.proofs.buffer.LineTable.line.Needs as need

@@ -1,11 +1,10 @@
-use mathlib.Core.Path.{_≡_, sym, ap, _∙_, subst}
+use mathlib.Core.Path.{_≡_, sym, ap, _∙_}
 use mathlib.Core.Bool.{false}
-use mathlib.Core.List.{List}
 use Prim.Native.Nat.{ℕ}
 use borrow.Author.Needs.{needs}
 use lib.ListN.{length}
-use Rattle.stack.specs.Memory.{outside, cells}
-use Rattle.stack.specs.Refusals.{judged, Fetched}
+use Rattle.stack.specs.Memory.{outside}
+use Rattle.stack.specs.Refusals.{judged}
 use Rattle.stack.proofs.PieceLaws.{fits}
 use Rattle.layers.specs.Tables.{lines-in}
 use Rattle.layers.proofs.BufferLaws.{cells-held, fetched-down}

@@ -1,4 +1,4 @@
-use mathlib.Core.Path.{_≡_, sym, ap, _∙_, subst}
+use mathlib.Core.Path.{ap, _∙_, subst}
 use mathlib.Core.List.{List}
 use Prim.Native.Nat.{ℕ}
 use native.Mathlib.Omega.{arith}
@@ -6,7 +6,7 @@ use lib.ListN.{length, drop}
 use Rattle.std.proofs.shelf.Lists.{take-at}
 use Rattle.std.specs.Of.Vec.{vec-items}
 use Rattle.stack.specs.Memory.{Piece, piece}
-use Rattle.stack.specs.Flat.{Start, replaced, written}
+use Rattle.stack.specs.Flat.{Start, replaced}
 use Rattle.stack.specs.Words.{bytes-of}
 use Rattle.stack.proofs.FlatLaws.{size-bytes, flat-stores}
 use Rattle.stack.proofs.WordLaws.{length-bytes-of}

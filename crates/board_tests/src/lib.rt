@@ -1,0 +1,3 @@
+// Tests of the board.
+#[cfg(test)]
+mod tests;

@@ -1,0 +1,4 @@
+pub mod Parts
+pub mod Spelling
+pub mod Commands
+pub mod Rows

@@ -1,0 +1,3 @@
+mod PileLaws
+mod MachineLaws
+mod ScriptLaws

@@ -1,0 +1,3 @@
+// Tests of the memories and of the layers over them.
+#[cfg(test)]
+mod tests;
