@@ -28,6 +28,9 @@ use codec::word::Word;
 use stack::memory::Stack;
 use stack::refusal::Refusal;
 
+// How long the buffer of a read has to be.
+const LINE: usize = 64;
+
 // Lines in 64 banks of a stack, their checks and parity in the others, and the banks retired so far.
 #[derive(Drop)]
 pub struct Board<S: Stack> {
@@ -66,7 +69,7 @@ impl<S: Stack> Board<S> {
         if address / 64 >= self.stack.size() {
             return Err(Refusal::AddressOutOfRange);
         }
-        if into.len() != 64 {
+        if into.len() != LINE {
             return Err(Refusal::LineLength);
         }
         let mut line = [0u8; 64];

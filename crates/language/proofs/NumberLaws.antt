@@ -24,12 +24,12 @@ digits-more : (n : ℕ) (xs : List ℕ) (i : ℕ) → i < length xs
 unfolding more-digits
 digits-more n xs i h = ap (more-digits (Some n)) (drop-more xs i 0 h)
 
-pub digit-more : (n d : ℕ) (xs : List ℕ) (i : ℕ) → i < length xs → digit-value (getD xs i 0) ≡ Some d
+pub digit-more : (n d : ℕ) (xs : List ℕ) (i : ℕ) → i < length xs → Some d ≡ digit-value (getD xs i 0)
     → more-digits (Some n) (drop i xs) ≡ more-digits (Some (10 * n + d)) (drop (i + 1) xs)
-digit-more n d xs i h e = digits-more n xs i h ∙ ap (λ o. more-digits (with-digit n o) (drop (i + 1) xs)) e
+digit-more n d xs i h e = digits-more n xs i h ∙ ap (λ o. more-digits (with-digit n o) (drop (i + 1) xs)) (sym e)
 
-pub digit-none : (n : ℕ) (xs : List ℕ) (i : ℕ) → i < length xs → digit-value (getD xs i 0) ≡ None → more-digits (Some n) (drop i xs) ≡ None
-digit-none n xs i h e = digits-more n xs i h ∙ ap (λ o. more-digits (with-digit n o) (drop (i + 1) xs)) e ∙ no-digits (drop (i + 1) xs)
+pub digit-none : (n : ℕ) (xs : List ℕ) (i : ℕ) → i < length xs → None ≡ digit-value (getD xs i 0) → more-digits (Some n) (drop i xs) ≡ None
+digit-none n xs i h e = digits-more n xs i h ∙ ap (λ o. more-digits (with-digit n o) (drop (i + 1) xs)) (sym e) ∙ no-digits (drop (i + 1) xs)
 
 pub digits-end : (n : ℕ) (xs : List ℕ) (i : ℕ) → length xs ≤ i → more-digits (Some n) (drop i xs) ≡ Some n
 unfolding more-digits

@@ -1,3 +1,4 @@
 mod PileLaws
 mod MachineLaws
 mod ScriptLaws
+mod LineLaws

@@ -5,6 +5,7 @@ use mathlib.Core.List.{List, [], _∷_, _++_}
 use Prim.Native.Nat.{ℕ, _+_, _≤_}
 use lib.ListN.{length}
 use lib.Dec.{ltb}
+use Rattle.std.specs.Options.{isSome}
 use Rattle.std.specs.declared.option.Option.{Option}
 use Rattle.std.specs.declared.option.Option.the-variants.{Some, None}
 use Rattle.layers.specs.declared.fault.Fault.{Fault}
@@ -60,17 +61,7 @@ leading-rows n s (l ∷ ls) =
 unfoldable pub output : List ℕ → List ℕ
 output input = cond (ltb 16384 (length input)) (row 0 unreadable) (leading-rows 1 blank (lines input))
 
--- PARTS OF THE PROOF
-
--- the leading lines done: what was written, and what the other lines write once the pile is formatted, are the rows of the whole text
-abbrev pub Led : Pile → List ℕ → List ℕ → Pile → ℕ → List ℕ → List ℕ → Type 0
-Led s text out t n rest out′ = out ++ leading-rows 1 s (lines text) ≡ out′ ++ rows n (formatted t) (lines rest)
-
--- the rows of a text written behind what there was
-abbrev pub Rows-written : List ℕ → ℕ → Machine → List ℕ → List ℕ → Type 0
-Rows-written out n m text out′ = out′ ≡ out ++ rows n m (lines text)
-
--- A LAW
+-- LAWS
 
 -- replies written as rows, numbered from n on
 unfoldable pub numbered : ℕ → List Reply → List ℕ
@@ -80,3 +71,21 @@ numbered n (r ∷ rs) = row n r ++ numbered (n + 1) rs
 -- an input that is not too long has one row for each of its lines, in order, numbered from 1 on
 abbrev pub One-row-each : List ℕ → List ℕ → Type 0
 One-row-each input out = length input ≤ 16384 → (replies : List Reply) × (length replies ≡ length (lines input)) × (out ≡ numbered 1 replies)
+
+-- a refused line changes neither the pile nor the marks
+abbrev pub Refused-changes-nothing : Type 0
+Refused-changes-nothing = (m : Machine) (spelled : Option Command) → isSome (line-reply m spelled .refusal) ≡ true → line-after m spelled ≡ m
+
+-- what is written for the lines so far stays as it is, whatever lines follow
+abbrev pub Later-lines-only-add : Type 0
+Later-lines-only-add = (n : ℕ) (s : Pile) (ls ms : List (List ℕ)) → (more : List ℕ) × (leading-rows n s (ls ++ ms) ≡ leading-rows n s ls ++ more)
+
+-- WHAT THE LOOPS PROMISE
+
+-- the leading lines done: what was written, and what the other lines write once the pile is formatted, are the rows of the whole text
+abbrev pub Led : Pile → List ℕ → List ℕ → Pile → ℕ → List ℕ → List ℕ → Type 0
+Led s text out t n rest out′ = out ++ leading-rows 1 s (lines text) ≡ out′ ++ rows n (formatted t) (lines rest)
+
+-- the rows of a text written behind what there was
+abbrev pub Rows-written : List ℕ → ℕ → Machine → List ℕ → List ℕ → Type 0
+Rows-written out n m text out′ = out′ ≡ out ++ rows n m (lines text)

@@ -6,7 +6,7 @@ ghost use Rattle.std.specs.Of.Vec.{vec-items};
 ghost use Rattle.std.specs.Vec.{made};
 ghost use Rattle.script.specs.Piles.{bare-pile-of};
 ghost use Rattle.script.specs.Machines.{machine-of};
-ghost use Rattle.script.specs.Scripts.{Led, One-row-each, Rows-written, output};
+ghost use Rattle.script.specs.Scripts.{Later-lines-only-add, Led, One-row-each, Refused-changes-nothing, Rows-written, output};
 
 mod lines;
 
@@ -50,6 +50,14 @@ pub fn run(heap: Global, input: &[u8]) -> Result<Vec<u8>, AllocError>
     Ok(out)
 }
 
+// What holds of the lines of every script.
+pub fn lines_hold() -> u8
+    ensures a_refused_line_changes_nothing { λ _. ⌜ Refused-changes-nothing ⌝ }
+    ensures later_lines_only_add { λ _. ⌜ Later-lines-only-add ⌝ }
+{
+    0
+}
+
 // Adds the faults of the leading lines; gives the number of the first line that is none of them, and the text from there on.
 fn inject_leading<'a>(
     heap: Global,
@@ -85,8 +93,8 @@ fn run_lines(
     out: &mut Vec<u8>,
 ) -> Result<(), AllocError>
     requires counts { ⌜ first + length (now text) ≤ 16385 ⌝ }
-    ensures writes_the_rows { λ r. ⌜ made r (λ _. Rows-written (vec-items (now (out .entry))) first (machine-of (now (board .entry))) (now (text .entry))
-        (vec-items (now (out .exit)))) ⌝ }
+    ensures writes_the_rows { λ r. ⌜ made r (λ _. Rows-written (vec-items (now (out .entry))) first (machine-of (now (board .entry)))
+        (now (text .entry)) (vec-items (now (out .exit)))) ⌝ }
 {
     let mut rest = text;
     let mut number = first;

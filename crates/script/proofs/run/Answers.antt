@@ -1,5 +1,5 @@
 use mathlib.Core.Path.{_≡_, ap, _∙_}
-use Prim.Native.Nat.{_<_}
+use Prim.Native.Nat.{_<_, _≤_}
 use native.Mathlib.Omega.{arith}
 use lib.ListN.{length}
 use Rattle.std.specs.Of.Vec.{vec-items}
@@ -31,11 +31,12 @@ returns-in-Break-run-lines c =
 
 pub returns : need.returns
 returns c =
+    let short : length (c .args .input .now) ≤ 16384 = omega (arith, c .if-input-gt-LONGEST .left) in
     let all =
     whole (c .args .input .now) (vec-items (c .new-out .result)) (vec-items (c .inject-leading .last .out)) (vec-items (c .run-lines .last .out))
     (c .in-Continue-number .rest .now) (bare-pile-of (c .new-injector .result)) (bare-pile-of (c .inject-leading .last .injector))
     (machine-of (c .format-board .result)) (c .in-Continue-number .number)
-    (c .if-input-gt-LONGEST .left) (c .new-out .ensures .items)
+    short (c .new-out .ensures .items)
     (first-pile (c .new-injector .result) (c .new-memory .result) (c .new-injector .ensures .holds) (c .new-injector .ensures .empty)
     (ap vec-items (c .new-memory .ensures .holds) ∙ c .in-Continue-vec .ensures tt .exact (λ y e. e)))
     (c .in-Continue-number .ensures tt .leads)

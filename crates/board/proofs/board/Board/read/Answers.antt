@@ -13,10 +13,10 @@ returns-then-address-size g c =
       a-refusal-leaves-the-buffer = refl;
     }
 
-pub returns-then-into-ne64 : need.returns-then-into-ne64
-returns-then-into-ne64 g c =
+pub returns-then-into-ne-LINE : need.returns-then-into-ne-LINE
+returns-then-into-ne-LINE g c =
     record {
-      answers-as-ruled = sym (read-buffer (state (g .S·Stack) (c .args .self .now)) (c .args .address) (length (c .args .into .now)) (omega (arith, c .size .ensures .is-size)) (c .if-into-ne64 .taken));
+      answers-as-ruled = sym (read-buffer (state (g .S·Stack) (c .args .self .now)) (c .args .address) (length (c .args .into .now)) (omega (arith, c .size .ensures .is-size)) (c .if-into-ne-LINE .taken));
       a-refusal-leaves-the-buffer = refl;
     }
 
@@ -25,7 +25,7 @@ returns-in-Break-finding g c =
     let p = err-from-errBy (c .from-residual .result) (c .from-residual .ensures .1) in
     rw (p .1, p .2)
     (record {
-      answers-as-ruled = sym (read-past (state (g .S·Stack) (c .args .self .now)) (c .args .address) (length (c .args .into .now)) (omega (arith, c .size .ensures .is-size)) (c .if-into-ne64 .left) _ (c .in-Break-finding .ensures tt .reads));
+      answers-as-ruled = sym (read-past (state (g .S·Stack) (c .args .self .now)) (c .args .address) (length (c .args .into .now)) (omega (arith, c .size .ensures .is-size)) (c .if-into-ne-LINE .left) _ (c .in-Break-finding .ensures tt .reads));
       a-refusal-leaves-the-buffer = refl;
     })
 
@@ -33,6 +33,6 @@ pub returns : need.returns
 returns g c =
     record {
       answers-as-ruled = rw (c .copy-from-slice .ensures .after)
-          (sym (read-past (state (g .S·Stack) (c .args .self .now)) (c .args .address) (length (c .args .into .now)) (omega (arith, c .size .ensures .is-size)) (c .if-into-ne64 .left) _ (c .in-Continue-finding .ensures tt .reads)));
+          (sym (read-past (state (g .S·Stack) (c .args .self .now)) (c .args .address) (length (c .args .into .now)) (omega (arith, c .size .ensures .is-size)) (c .if-into-ne-LINE .left) _ (c .in-Continue-finding .ensures tt .reads)));
       a-refusal-leaves-the-buffer = tt;
     }
