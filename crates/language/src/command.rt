@@ -37,6 +37,7 @@ pub fn letter_of(call: &Call<u8>) -> u8
 }
 
 // The command that a line spells, unless it is unreadable.
+#[tactic(auto, unfolding(crate::specs::Commands::command_in))]
 pub fn read_command(line: &[u8]) -> Option<Command>
     ensures is_what_it_spells { result ≡ command_in line.now }
 {

@@ -2,8 +2,8 @@
 #[cfg(test)]
 mod tests {
     use codec::word::Finding;
-    use log::log::Log;
-    use log::note::{Kind, Note};
+    use error_log::log::Log;
+    use error_log::note::{Kind, Note};
     use stack::refusal::Refusal;
 
     const BLANK: Note = Note {

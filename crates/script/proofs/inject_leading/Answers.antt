@@ -5,7 +5,7 @@ use Rattle.script.specs.Piles.{bare_pile_of}
 use Rattle.script.proofs.PileLaws.{one_fault}
 use Rattle.script.proofs.ScriptLaws.{leading_ends, leading_step, leading_stops}
 use Rattle.script.proofs.inject_leading.Goals as goal
-use Rattle.script.proofs.inject_leading.Goals.{in-Some+in-default-read-fault, in-default}
+use Rattle.script.proofs.inject_leading.Goals.{in-Some+in_default-read_fault, in_default}
 
 pub loop-line-preserved : goal.loop-line-preserved
 loop-line-preserved c = (
@@ -13,12 +13,12 @@ loop-line-preserved c = (
   c.loop-line.invariant.1
       ∙ leading_step (vec_items c.loop-line.out) (vec_items c.push_row.new.out) c.loop-line.number
       (bare_pile_of c.loop-line.injector) (bare_pile_of c.strike.new.self)
-      (lines c.loop-line.text.now) c.in-Some.line.now (lines c.in-Some.rest.now) c.in-Some-read-fault.fault c.to-fault-reply.result
-      c.in-Some.ensures.parts_the_first_line c.in-Some-read-fault.ensures.is_spelled
-      (c.to-fault-reply.ensures.is_the_reply ∙ ap fault_reply c.strike.ensures.refuses)
-      (one_fault c.loop-line.injector c.strike.new.self c.in-Some-read-fault.fault c.strike.result
+      (lines c.loop-line.text.now) c.in-Some.line.now (lines c.in-Some.rest.now) c.in-Some-read_fault.fault c.to_fault-reply.result
+      c.in-Some.ensures.parts_the_first_line c.in-Some-read_fault.ensures.is_spelled
+      (c.to_fault-reply.ensures.is_the_reply ∙ ap fault_reply c.strike.ensures.refuses)
+      (one_fault c.loop-line.injector c.strike.new.self c.in-Some-read_fault.fault c.strike.result
       c.strike.ensures.refuses c.strike.ensures.below c.strike.ensures.stands)
-      c.in-ok-push-row.ensures.writes_the_row,
+      c.in_ok-push_row.ensures.writes_the_row,
 )
 
 pub returns : goal.returns
@@ -28,13 +28,13 @@ returns c =
     record {
       counts = c.loop-line.invariant.0;
       leads =
-          elim c.match-next-line.branch [
-            | in-Some+in-default-read-fault w ↦
+          elim c.match-next_line.branch [
+            | in-Some+in_default-read_fault w ↦
                 c.loop-line.invariant.1
                 ∙ ap (λ z. out ++ z) (leading_stops c.loop-line.number s (lines c.loop-line.text.now) w.in-Some.line.now (lines w.in-Some.rest.now)
-                w.in-Some.ensures.parts_the_first_line w.in-default-read-fault.ensures.is_spelled)
-            | in-default w ↦
+                w.in-Some.ensures.parts_the_first_line w.in_default-read_fault.ensures.is_spelled)
+            | in_default w ↦
                 c.loop-line.invariant.1
-                ∙ ap (λ z. out ++ z) (leading_ends c.loop-line.number s c.loop-line.text.now w.in-default.ensures.parts_the_first_line)
+                ∙ ap (λ z. out ++ z) (leading_ends c.loop-line.number s c.loop-line.text.now w.in_default.ensures.parts_the_first_line)
           ];
     }

@@ -12,17 +12,17 @@ returns-then-input-gt-LONGEST c =
     let long : 16384 < length c.args.input.now = omega (arith, c.if-input-gt-LONGEST.true) in
     let all =
     too_long c.args.input.now (vec_items c.new-out.result) (vec_items c.push_row.new.out) c.unreadable.result
-    long c.new-out.ensures.items c.unreadable.ensures.is_the_reply c.in-ok-push-row.ensures.writes_the_row in
+    long c.new-out.ensures.items c.unreadable.ensures.is_the_reply c.in_ok-push_row.ensures.writes_the_row in
     record { is_the_output = all; has_a_row_for_each_line = one_row_each c.args.input.now (vec_items c.push_row.new.out) all }
 
-pub returns-in-err-number : goal.returns-in-err-number
-returns-in-err-number c =
-    let p = err_from_is_err_and c.from-residual-in-err-number.result c.from-residual-in-err-number.ensures.1 in
+pub returns-in_err-number : goal.returns-in_err-number
+returns-in_err-number c =
+    let p = err_from_is_err_and c.from_residual-in_err-number.result c.from_residual-in_err-number.ensures.1 in
     record { is_the_output = rw p.1 tt; has_a_row_for_each_line = rw p.1 tt }
 
-pub returns-in-err-run-lines : goal.returns-in-err-run-lines
-returns-in-err-run-lines c =
-    let p = err_from_is_err_and c.from-residual-in-err-run-lines.result c.from-residual-in-err-run-lines.ensures.1 in
+pub returns-in_err-run_lines : goal.returns-in_err-run_lines
+returns-in_err-run_lines c =
+    let p = err_from_is_err_and c.from_residual-in_err-run_lines.result c.from_residual-in_err-run_lines.ensures.1 in
     record { is_the_output = rw p.1 tt; has_a_row_for_each_line = rw p.1 tt }
 
 pub returns : goal.returns
@@ -30,13 +30,13 @@ returns c =
     let short : length c.args.input.now ≤ 16384 = omega (arith, c.if-input-gt-LONGEST.false) in
     let all =
     whole c.args.input.now (vec_items c.new-out.result) (vec_items c.inject_leading.new.out) (vec_items c.run_lines.new.out)
-    c.in-ok-number.rest.now (bare_pile_of c.new-injector.result) (bare_pile_of c.inject_leading.new.injector)
-    (machine_of c.format-board.result) c.in-ok-number.number
+    c.in_ok-number.rest.now (bare_pile_of c.new-injector.result) (bare_pile_of c.inject_leading.new.injector)
+    (machine_of c.format-board.result) c.in_ok-number.number
     short c.new-out.ensures.items
     (first_pile c.new-injector.result c.new-memory.result c.new-injector.ensures.holds c.new-injector.ensures.empty
-    (ap vec_items c.new-memory.ensures.holds ∙ c.in-ok-vec.ensures.items-if-clones-equal (λ y e. e)))
-    c.in-ok-number.ensures.leads
+    (ap vec_items c.new-memory.ensures.holds ∙ c.in_ok-vec.ensures.items_if_clones_equal (λ y e. e)))
+    c.in_ok-number.ensures.leads
     (board_formatted c.inject_leading.new.injector c.new.result c.format-board.result c.new.ensures.holds c.new.ensures.empty
     c.format-board.ensures.puts_zeros_then_settles c.format-board.ensures.is_formatted.stage)
-    c.in-ok-run-lines.ensures.writes_the_rows in
+    c.in_ok-run_lines.ensures.writes_the_rows in
     record { is_the_output = all; has_a_row_for_each_line = one_row_each c.args.input.now (vec_items c.run_lines.new.out) all }

@@ -9,13 +9,13 @@ pub returns-then-s-lt64 : goal.returns-then-s-lt64
 returns-then-s-lt64 c =
     let line : List ℕ = c.args.word.now.line in
     let w : List ℕ = symbols c.args.word.now in
-    let s : ℕ = c.in-ok-s.s in
-    let e : ℕ = c.in-ok-s.e in
+    let s : ℕ = c.in_ok-s.s in
+    let e : ℕ = c.in_ok-s.e in
     let n : length line ≡ 64 = search rules in
     let l : take 64 w ≡ line = line_before line (check_of c.args.word.now.check) n in
     record {
       applies_the_pair = (
-        sym c.single_error.ensures.is_the_single_error ∙ c.in-ok-s.ensures.ok-part,
+        sym c.single_error.ensures.is_the_single_error ∙ c.in_ok-s.ensures.ok_part,
         sym (take_corrected_inside 64 w s e c.if-s-lt64.true ∙ ap (λ x. set x s (bit_xor (get_or x s 0) e)) l),
       );
     }
@@ -28,7 +28,7 @@ returns-else-s-lt64 c =
     let l : take 64 w ≡ line = line_before line (check_of c.args.word.now.check) n in
     record {
       applies_the_pair = (
-        sym c.single_error.ensures.is_the_single_error ∙ c.in-ok-s.ensures.ok-part,
-        sym (take_corrected_past 64 w c.in-ok-s.s c.in-ok-s.e c.if-s-lt64.false ∙ l),
+        sym c.single_error.ensures.is_the_single_error ∙ c.in_ok-s.ensures.ok_part,
+        sym (take_corrected_past 64 w c.in_ok-s.s c.in_ok-s.e c.if-s-lt64.false ∙ l),
       );
     }

@@ -18,8 +18,8 @@ returns-then-explains c =
       inside = c.if-s-symbols.true;
       byte =
           elim c.if-s-lt-LAST.branch [
-            | then-s-lt-LAST v ↦ omega (arith, v.e_is, at 0 (lit< tt), syndrome_lt 0 w)
-            | else-s-lt-LAST v ↦ omega (arith, v.e_is, at 5 (lit< tt), syndrome_lt 5 w)
+            | then-s-lt-LAST v ↦ omega (arith, v.e-is, at 0 (lit< tt), syndrome_lt 0 w)
+            | else-s-lt-LAST v ↦ omega (arith, v.e-is, at 5 (lit< tt), syndrome_lt 5 w)
           ];
       changes = c.if-e-ne0.true;
       codeword =
@@ -44,8 +44,8 @@ tried c s e m =
     let at = sums_at w c.syndromes-sums.result c.syndromes-sums.ensures.are_the_six_sums in
     let p = placed c s e m in
     elim c.if-s-lt-LAST.branch [
-      | then-s-lt-LAST v ↦ value_low w s e (omega arith) (let h = v.if-s-lt-LAST.true in omega arith) m ∙ sym (v.e_is ∙ at 0 (lit< tt))
-      | else-s-lt-LAST v ↦ value_last w s e (omega arith) (let h = v.if-s-lt-LAST.false in omega arith) m ∙ sym (v.e_is ∙ at 5 (lit< tt))
+      | then-s-lt-LAST v ↦ value_low w s e (omega arith) (let h = v.if-s-lt-LAST.true in omega arith) m ∙ sym (v.e-is ∙ at 0 (lit< tt))
+      | else-s-lt-LAST v ↦ value_last w s e (omega arith) (let h = v.if-s-lt-LAST.false in omega arith) m ∙ sym (v.e-is ∙ at 5 (lit< tt))
     ]
 
 none : (c : goal.Joined-else-s-symbols) (s e : ℕ) → Corrects c.args.symbols.now s e → ⊥

@@ -10,24 +10,24 @@ use Rattle.codec.proofs.finder.place.Goals.{then-a-b, else-a-b}
 other : (k x : ℕ) → pow k ≡ x → x ≢ 0
 other k x e z = pow_nonzero k (e ∙ z)
 
-pub returns-in-default : goal.returns-in-default
-returns-in-default c =
+pub returns-in_default : goal.returns-in_default
+returns-in_default c =
     record {
       within = lit< tt;
       no_other =
           λ s e hs he ne ex ey.
-          place_69 s e (get_or c.args.sums.now 0 0) (get_or c.args.sums.now 1 0) hs he ne ex ey c.in-default.ensures.is_the_exponent_and_none_at_zero;
+          place_69 s e (get_or c.args.sums.now 0 0) (get_or c.args.sums.now 1 0) hs he ne ex ey c.in_default.ensures.is_the_exponent_and_none_at_zero;
     }
 
-pub returns-in-default-log : goal.returns-in-default-log
-returns-in-default-log c =
+pub returns-in_default-log : goal.returns-in_default-log
+returns-in_default-log c =
     let a = c.in-Some.ensures.is_the_exponent_and_none_at_zero in
     record {
       within = lit< tt;
       no_other =
           λ s e hs he ne ex ey.
           place_68 s e (get_or c.args.sums.now 0 0) (get_or c.args.sums.now 1 0) hs he ne ex ey (other c.in-Some.a _ a.1)
-          c.in-default-log.ensures.is_the_exponent_and_none_at_zero;
+          c.in_default-log.ensures.is_the_exponent_and_none_at_zero;
     }
 
 -- the difference of the logarithms is that of the place

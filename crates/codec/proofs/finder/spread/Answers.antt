@@ -27,13 +27,13 @@ returns c =
     let shown : List ℕ = c.symbols-check.result.now in
     let n = c.symbols-check.ensures.are_six_or_in_short_five in
     let s : Bool = is_short c.args.word.now.check in
-    let first : c.copy-from-slice.new.self ≡ c.args.word.now.line = search rules in
-    let last : c.copy-from-slice-2.new.self ≡ shown = search rules in
+    let first : c.copy_from_slice.new.self ≡ c.args.word.now.line = search rules in
+    let last : c.copy_from_slice-2.new.self ≡ shown = search rules in
     let l : length c.args.word.now.line ≡ 64 = search rules in
     record {
       at_least_69 = omega (arith, five s, n);
       at_most_70 = omega (arith, six s, n);
       in_order =
-          joined (length shown) c.copy-from-slice.new.self _ c.copy-from-slice-2.new.self (ap length first ∙ l) (ap length last)
+          joined (length shown) c.copy_from_slice.new.self _ c.copy_from_slice-2.new.self (ap length first ∙ l) (ap length last)
           ∙ ap₂ ◌++◌ first (last ∙ c.symbols-check.ensures.are_those_held);
     }

@@ -23,7 +23,7 @@ returns-in-0-to-67 c =
       are_its_products = λ k h. ap (λ xs. get_or xs k 0) c.progression.ensures.is_the_byte_times_the_powers ∙ term_low c.args.s c.args.symbol k l h;
     }
 
-pub returns-in-default : goal.returns-in-default
-returns-in-default c =
+pub returns-in_default : goal.returns-in_default
+returns-in_default c =
     let l : 70 ≤ c.args.s = omega arith in
     record { are_its_products = λ k h. term_past c.args.s c.args.symbol k l h }

@@ -14,24 +14,24 @@ returns-in-HandedOut c =
     let k = c.args.marked.now in
     let old = c.args.line.now in
     let call = c.read.ensures.is_a_read in
-    let ans : c.call-on-answer.result ≡ lent_answer m k (Read c.args.address (length old)) = c.call-on-answer.ensures.answers ∙ ap (λ q. lent_answer m k (heard q)) call in
+    let ans : c.call_on-answer.result ≡ lent_answer m k (Read c.args.address (length old)) = c.call_on-answer.ensures.answers ∙ ap (λ q. lent_answer m k (heard q)) call in
     let long : eqb (length old) 64 ≡ true =
     read_long (unusable m k) _ (eqb (length old) 64) (past_checks (lent_state m (banks_of k)) (Read c.args.address (length old))) c.in-HandedOut.found c.in-HandedOut.field-1 (sym ans ∙ c.in-HandedOut.is) in
     record {
       answers_as_ruled = c.to-reply.ensures.tells_the_answer ∙ ap told ans;
       hands_out_the_line = c.copy_line.ensures.copies_where_it_fits ∙ ap (λ t. cond t c.in-HandedOut.found old) long ∙ sym (ap (λ r. handed r old) (sym ans ∙ c.in-HandedOut.is));
-      leaves_the_memory = c.call-on-answer.ensures.stores ∙ ap (λ q. lent_after m k (heard q)) call ∙ read_leaves m k c.args.address (length old);
+      leaves_the_memory = c.call_on-answer.ensures.stores ∙ ap (λ q. lent_after m k (heard q)) call ∙ read_leaves m k c.args.address (length old);
     }
 
-pub returns-in-default : goal.returns-in-default
-returns-in-default c =
+pub returns-in_default : goal.returns-in_default
+returns-in_default c =
     let m = c.args.memory.now in
     let k = c.args.marked.now in
     let old = c.args.line.now in
     let call = c.read.ensures.is_a_read in
-    let ans : c.call-on-answer.result ≡ lent_answer m k (Read c.args.address (length old)) = c.call-on-answer.ensures.answers ∙ ap (λ q. lent_answer m k (heard q)) call in
+    let ans : c.call_on-answer.result ≡ lent_answer m k (Read c.args.address (length old)) = c.call_on-answer.ensures.answers ∙ ap (λ q. lent_answer m k (heard q)) call in
     record {
       answers_as_ruled = c.to-reply.ensures.tells_the_answer ∙ ap told ans;
-      hands_out_the_line = sym (ap (λ r. handed r old) (sym ans) ∙ not_handed c.call-on-answer.result old c.in-default.not-HandedOut);
-      leaves_the_memory = c.call-on-answer.ensures.stores ∙ ap (λ q. lent_after m k (heard q)) call ∙ read_leaves m k c.args.address (length old);
+      hands_out_the_line = sym (ap (λ r. handed r old) (sym ans) ∙ not_handed c.call_on-answer.result old c.in_default.not-HandedOut);
+      leaves_the_memory = c.call_on-answer.ensures.stores ∙ ap (λ q. lent_after m k (heard q)) call ∙ read_leaves m k c.args.address (length old);
     }

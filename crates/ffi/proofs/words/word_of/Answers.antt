@@ -8,7 +8,7 @@ returns-then-symbols-eq70 c =
     record {
       has_the_symbols = (
         grind (arith, nat_tests, c.if-symbols-eq70.true),
-        joined c.args.symbols.now _ _ 6 c.if-symbols-eq70.true c.copy-from-slice.ensures.after c.copy-from-slice-then-symbols-eq70.ensures.after,
+        joined c.args.symbols.now _ _ 6 c.if-symbols-eq70.true c.copy_from_slice.ensures.after c.copy_from_slice-then-symbols-eq70.ensures.after,
       );
     }
 
@@ -17,6 +17,6 @@ returns-then-symbols-eq69 c =
     record {
       has_the_symbols = (
         grind (arith, nat_tests, c.if-symbols-eq69.true),
-        joined c.args.symbols.now _ _ 5 c.if-symbols-eq69.true c.copy-from-slice-then-symbols-eq69.ensures.after c.copy-from-slice-then-symbols-eq69-2.ensures.after,
+        joined c.args.symbols.now _ _ 5 c.if-symbols-eq69.true c.copy_from_slice-then-symbols-eq69.ensures.after c.copy_from_slice-then-symbols-eq69-2.ensures.after,
       );
     }

@@ -16,12 +16,12 @@ pub returns : goal.returns
 returns c =
     let row : List ℕ = c.args.row.now in
     let x : ℕ = c.args.check in
-    let b0 : get_or c.to-le-bytes-c.result 0 0 ≡ lane 0 x = unfold lane in ap (λ xs. get_or xs 0 0) c.to-le-bytes-c.ensures in
-    let b1 : get_or c.to-le-bytes-c.result 1 0 ≡ lane 1 x = unfold lane in ap (λ xs. get_or xs 1 0) c.to-le-bytes-c.ensures in
-    let b2 : get_or c.to-le-bytes-c.result 2 0 ≡ lane 2 x = unfold lane in ap (λ xs. get_or xs 2 0) c.to-le-bytes-c.ensures in
-    let b3 : get_or c.to-le-bytes-c.result 3 0 ≡ lane 3 x = unfold lane in ap (λ xs. get_or xs 3 0) c.to-le-bytes-c.ensures in
-    let b4 : get_or c.to-le-bytes-c.result 4 0 ≡ lane 4 x = unfold lane in ap (λ xs. get_or xs 4 0) c.to-le-bytes-c.ensures in
-    let b5 : get_or c.to-le-bytes-c.result 5 0 ≡ lane 5 x = unfold lane in ap (λ xs. get_or xs 5 0) c.to-le-bytes-c.ensures in
+    let b0 : get_or c.to_le_bytes-c.result 0 0 ≡ lane 0 x = unfold lane in ap (λ xs. get_or xs 0 0) c.to_le_bytes-c.ensures in
+    let b1 : get_or c.to_le_bytes-c.result 1 0 ≡ lane 1 x = unfold lane in ap (λ xs. get_or xs 1 0) c.to_le_bytes-c.ensures in
+    let b2 : get_or c.to_le_bytes-c.result 2 0 ≡ lane 2 x = unfold lane in ap (λ xs. get_or xs 2 0) c.to_le_bytes-c.ensures in
+    let b3 : get_or c.to_le_bytes-c.result 3 0 ≡ lane 3 x = unfold lane in ap (λ xs. get_or xs 3 0) c.to_le_bytes-c.ensures in
+    let b4 : get_or c.to_le_bytes-c.result 4 0 ≡ lane 4 x = unfold lane in ap (λ xs. get_or xs 4 0) c.to_le_bytes-c.ensures in
+    let b5 : get_or c.to_le_bytes-c.result 5 0 ≡ lane 5 x = unfold lane in ap (λ xs. get_or xs 5 0) c.to_le_bytes-c.ensures in
     record {
       takes_the_check_on =
           joined x row _ _ _ _ _ _ _ _ _

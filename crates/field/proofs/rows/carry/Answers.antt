@@ -19,9 +19,9 @@ whole : (e f x : ℕ) → x ≡ moved f → e * 4294967296 + x ≡ packed 0 0 0 
 unfolding moved packed
 whole e f x p = omega arith
 
-pub overflow-add-result : goal.overflow-add-result
+pub overflow_add-result : goal.overflow_add-result
 unfolding tabled moved mul mulLow pow timesZ
-overflow-add-result c =
+overflow_add-result c =
     let he : c.args.e < 256 = omega arith in
     let hf : c.args.f < 256 = omega arith in
     record { fits = bound c.args.e c.args.f _ he (entry c.args.f hf) }

@@ -3,5 +3,5 @@ use Rattle.language.proofs.reply.push_number.Goals as goal
 
 pub returns : goal.returns
 returns c =
-    let text : c.as-bytes.result.now ≡ decimal c.args.n = search rules in
+    let text : c.as_bytes.result.now ≡ decimal c.args.n = search rules in
     record { writes_it = rw text at c.push_field.ensures.writes_it }

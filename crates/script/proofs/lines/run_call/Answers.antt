@@ -12,8 +12,8 @@ pub returns : goal.returns
 unfolding answered
 returns c =
     let call = c.args.call.now in
-    let asked : heard c.with-line-lent.result ≡ filled call =
-    c.with-line-lent.ensures.is_that_call ∙ ap (λ x. with_that_line call (replicate 64 x)) c.fill-line.ensures.is_its_byte in
+    let asked : heard c.with_line-lent.result ≡ filled call =
+    c.with_line-lent.ensures.is_that_call ∙ ap (λ x. with_that_line call (replicate 64 x)) c.fill-line.ensures.is_its_byte in
     let P : HostCall → Type 0 = λ q. Called pile_ghosts c.args.board.now q c.perform.result c.perform.new.board in
     let did : P (filled call) = subst P asked c.perform.ensures.does_the_call in
     record {

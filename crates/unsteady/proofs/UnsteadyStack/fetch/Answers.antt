@@ -14,7 +14,7 @@ returns c =
     let y = flat_means (vec_items s.shown.bytes) in
     let n = length c.args.into.now in
     let in' : outside (cond (eqb x.size y.size) x.size 0) c.args.bank c.args.index c.args.from n ≡ false =
-    ap (λ (q : ℕ). outside q c.args.bank c.args.index c.args.from n) (sym c.size.ensures.is_size) ∙ sym c.if-is-outside.ensures.is_outside in
+    ap (λ (q : ℕ). outside q c.args.bank c.args.index c.args.from n) (sym c.size.ensures.is_size) ∙ sym c.if-is_outside.ensures.is_outside in
     let two = both x.size y.size c.args.bank c.args.index c.args.from n in' in
     let got = (answered _ c.fetch.result c.fetch.ensures.refuses c.fetch.ensures.copies).0 two.in_shown in
     let shown : c.disturb.new.into ≡ noisy s.noise c.fetch.new.into = search rules in

@@ -12,8 +12,8 @@ use Rattle.board.proofs.board.Board.add_partners.Goals.{then-x-b+in-Ok, else-x-b
 pub loop-n-init : goal.loop-n-init
 loop-n-init g c = gather_start _ _ _ _ _
 
-pub decode-word-requires : goal.decode-word-requires
-decode-word-requires g c =
+pub decode_word-requires : goal.decode_word-requires
+decode_word-requires g c =
     let ms = listed c.args.self.now.marks in
     let room = group_room ms (c.args.address % 64) (omega arith) in
     let lo = c.group-lo.ensures.starts in

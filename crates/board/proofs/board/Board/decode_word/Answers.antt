@@ -7,6 +7,6 @@ pub returns : goal.returns
 unfolding decoded
 returns g c =
     record {
-      decodes = ap decoding (sym c.fetch-word-word.ensures.is_shown) ∙ sym c.decode.ensures.is_the_decoding;
+      decodes = ap decoding (sym c.fetch_word-word.ensures.is_shown) ∙ sym c.decode.ensures.is_the_decoding;
       a_refusal_leaves_the_line = c.decode.ensures.an_uncorrectable_word_leaves_the_line;
     }

@@ -5,13 +5,13 @@ use Rattle.board.specs.Marks.{listed}
 use Rattle.rules.proofs.Wording.{check_made, fetched, first_fits, fifth_fits, second_fits}
 use Rattle.board.proofs.board.Board.fetch_check.Goals as goal
 
-pub slice-bounds-check-end-then-short : goal.slice-bounds-check-end-then-short
-slice-bounds-check-end-then-short g c =
+pub slice_bounds-check-end-then-short : goal.slice_bounds-check-end-then-short
+slice_bounds-check-end-then-short g c =
     let z : List ℕ = 0 ∷ [] in
     omega (arith, length-append c.fetch.new.into z, c.fetch.auto.into)
 
-pub slice-bounds-check-end-else-short-2 : goal.slice-bounds-check-end-else-short-2
-slice-bounds-check-end-else-short-2 g c =
+pub slice_bounds-check-end-else-short-2 : goal.slice_bounds-check-end-else-short-2
+slice_bounds-check-end-else-short-2 g c =
     let z : List ℕ = 0 ∷ 0 ∷ [] in
     omega (arith, length-append c.fetch-else-short.new.into z, c.fetch-else-short.auto.into)
 

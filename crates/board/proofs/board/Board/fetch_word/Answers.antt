@@ -9,11 +9,11 @@ returns g c =
     let ms = listed c.args.self.now.marks in
     let a = c.args.address in
     let m = g.S.Stack.means c.args.self.now.stack in
-    let where' = c.line-bank-bank.ensures.is_line_bank in
+    let where' = c.line_bank-bank.ensures.is_line_bank in
     record {
       is_shown = ap₂ ◌++◌
-          (fetched c.fetch.result m.shown m.size c.line-bank-bank.result (a / 64) 0 64 (replicate 64 0) _ c.fetch.ensures.refuses c.fetch.ensures.copies refl
+          (fetched c.fetch.result m.shown m.size c.line_bank-bank.result (a / 64) 0 64 (replicate 64 0) _ c.fetch.ensures.refuses c.fetch.ensures.copies refl
           (subst (λ b. Fits m.size b (a / 64) 0 64) (sym where') (line_fits ms m.size a c.requires.in_range))
           ∙ ap (λ b. cells m.shown b (a / 64) 0 64) where')
-          c.fetch-check-check.ensures.is_shown;
+          c.fetch_check-check.ensures.is_shown;
     }

@@ -5,5 +5,5 @@ use Rattle.board.proofs.board.Board.judge_word.Goals as goal
 pub returns : goal.returns
 returns g c =
     record {
-      judges = ap (λ x. judging (c.args.line.now ++ x)) (sym c.fetch-check-check.ensures.is_shown) ∙ sym c.judge.ensures.is_the_judgement;
+      judges = ap (λ x. judging (c.args.line.now ++ x)) (sym c.fetch_check-check.ensures.is_shown) ∙ sym c.judge.ensures.is_the_judgement;
     }

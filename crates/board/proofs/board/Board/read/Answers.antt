@@ -18,19 +18,19 @@ returns-then-into-ne-LINE g c =
       a_refusal_leaves_the_buffer = refl;
     }
 
-pub returns-in-err-finding : goal.returns-in-err-finding
-returns-in-err-finding g c =
-    let p = err_from_is_err_and c.from-residual.result c.from-residual.ensures.1 in
+pub returns-in_err-finding : goal.returns-in_err-finding
+returns-in_err-finding g c =
+    let p = err_from_is_err_and c.from_residual.result c.from_residual.ensures.1 in
     rw (p.1, p.2)
     (record {
-      answers_as_ruled = sym (read_past (state g.S.Stack c.args.self.now) c.args.address (length c.args.into.now) (omega (arith, c.size.ensures.is_size)) c.if-into-ne-LINE.false _ c.in-err-finding.ensures.reads);
+      answers_as_ruled = sym (read_past (state g.S.Stack c.args.self.now) c.args.address (length c.args.into.now) (omega (arith, c.size.ensures.is_size)) c.if-into-ne-LINE.false _ c.in_err-finding.ensures.reads);
       a_refusal_leaves_the_buffer = refl;
     })
 
 pub returns : goal.returns
 returns g c =
     record {
-      answers_as_ruled = rw c.copy-from-slice.ensures.after
-          (sym (read_past (state g.S.Stack c.args.self.now) c.args.address (length c.args.into.now) (omega (arith, c.size.ensures.is_size)) c.if-into-ne-LINE.false _ c.in-ok-finding.ensures.reads));
+      answers_as_ruled = rw c.copy_from_slice.ensures.after
+          (sym (read_past (state g.S.Stack c.args.self.now) c.args.address (length c.args.into.now) (omega (arith, c.size.ensures.is_size)) c.if-into-ne-LINE.false _ c.in_ok-finding.ensures.reads));
       a_refusal_leaves_the_buffer = tt;
     }

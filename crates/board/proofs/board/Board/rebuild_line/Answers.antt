@@ -3,18 +3,18 @@ use Rattle.board.specs.State.{state}
 use Rattle.rules.proofs.Gathering.{rebuilding_refused, rebuilding_made}
 use Rattle.board.proofs.board.Board.rebuild_line.Goals as goal
 
-pub returns-in-err-sum-group : goal.returns-in-err-sum-group
-returns-in-err-sum-group g c =
-    let p = err_from_is_err_and c.from-residual.result c.from-residual.ensures.1 in
+pub returns-in_err-sum_group : goal.returns-in_err-sum_group
+returns-in_err-sum_group g c =
+    let p = err_from_is_err_and c.from_residual.result c.from_residual.ensures.1 in
     rw (p.1, p.2)
-    (record { rebuilds = rebuilding_refused (state g.S.Stack c.args.self.now) c.args.address _ c.in-err-sum-group.ensures.sums_or_refuses })
+    (record { rebuilds = rebuilding_refused (state g.S.Stack c.args.self.now) c.args.address _ c.in_err-sum_group.ensures.sums_or_refuses })
 
 pub returns-in-Ok : goal.returns-in-Ok
 returns-in-Ok g c =
-    let sum = c.in-ok-sum-group.ensures.sums_or_refuses in
+    let sum = c.in_ok-sum_group.ensures.sums_or_refuses in
     record { rebuilds = rebuilding_made (state g.S.Stack c.args.self.now) c.args.address _ _ sum.0 sum.1 c.in-Ok.ensures.judges }
 
 pub returns-in-Err : goal.returns-in-Err
 returns-in-Err g c =
-    let sum = c.in-ok-sum-group.ensures.sums_or_refuses in
+    let sum = c.in_ok-sum_group.ensures.sums_or_refuses in
     record { rebuilds = rebuilding_made (state g.S.Stack c.args.self.now) c.args.address _ _ sum.0 sum.1 c.in-Err.ensures.judges }

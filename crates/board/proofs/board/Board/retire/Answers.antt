@@ -8,19 +8,19 @@ use Rattle.rules.proofs.Retiring.{mark_open, mark_answer, mark_done}
 use Rattle.board.specs.Marks.{listed}
 use Rattle.board.proofs.board.Board.retire.Goals as goal
 
-pub returns-in-err-survey : goal.returns-in-err-survey
-returns-in-err-survey g c =
+pub returns-in_err-survey : goal.returns-in_err-survey
+returns-in_err-survey g c =
     let x = c.args.self.now.stack in
     let ms = listed c.args.self.now.marks in
     let m = g.S.Stack.means x in
     let b = c.args.bank in
-    let e = c.in-err-survey.field-0.0 in
-    let p = err_from_is_err_and c.from-residual.result c.from-residual.ensures.1 in
+    let e = c.in_err-survey.field-0.0 in
+    let p = err_from_is_err_and c.from_residual.result c.from_residual.ensures.1 in
     rw (p.1, p.2)
     (record {
       retires = λ n h.
           let q = call_refused g.S.Stack x ms (Mark b n) e tt
-          (mark_answer m ms b n (Some e) (mark_open m ms b n c.requires.real_bank c.requires.allowed h) c.in-err-survey.ensures.surveys) in
+          (mark_answer m ms b n (Some e) (mark_open m ms b n c.requires.real_bank c.requires.allowed h) c.in_err-survey.ensures.surveys) in
           record { answers = q.0.says; puts = q.1; marks = q.0.marks };
     })
 
@@ -37,6 +37,6 @@ returns g c =
     record {
       retires = λ n h.
           let p = mark_done g.S.Stack x y ms nx b n
-          (mark_open m ms b n c.requires.real_bank c.requires.allowed h) c.in-ok-survey.ensures.surveys c.requires.next did.run in
+          (mark_open m ms b n c.requires.real_bank c.requires.allowed h) c.in_ok-survey.ensures.surveys c.requires.next did.run in
           record { answers = ap Marked e ∙ p.0.says; puts = p.1; marks = p.0.marks };
     }

@@ -15,8 +15,8 @@ use Rattle.board.proofs.board.Board.retire_all.Goals as goal
 pub loop-index-init : goal.loop-index-init
 loop-index-init g c = record { run = index_none (Accepted g.S.Stack.means g.S.Stack.puts) _ _; marks = refl }
 
-pub retire-index-requires : goal.retire-index-requires
-retire-index-requires g c =
+pub retire_index-requires : goal.retire_index-requires
+retire_index-requires g c =
     let x = c.args.self.now.stack in
     let y = c.loop-index.self.stack in
     let i = c.loop-index.index in

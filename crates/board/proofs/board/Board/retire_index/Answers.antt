@@ -28,14 +28,14 @@ returns g c =
     let es = c.spare-spare.ensures.is_the_spare in
     let low : c.lower-lower.result < 72 = omega (arith, lower_real ms) in
     let sp : c.spare-spare.result < 72 = omega (arith, spare_real ms) in
-    let r1 = c.build-row-row.ensures.is_the_row i ∙ row_loaded nx (listed_low c.args.next.now) got i c.lower-lower.result w low load in
-    let r2 = c.build-row-row-2.ensures.is_the_row i ∙ row_loaded nx (listed_low c.args.next.now) got i c.spare-spare.result w sp load in
+    let r1 = c.build_row-row.ensures.is_the_row i ∙ row_loaded nx (listed_low c.args.next.now) got i c.lower-lower.result w low load in
+    let r2 = c.build_row-row-2.ensures.is_the_row i ∙ row_loaded nx (listed_low c.args.next.now) got i c.spare-spare.result w sp load in
     let p1 = put_done g.S.Stack c.put.result _ _ _ _ _ _ c.put.ensures.refuses c.put.ensures.stores (record { bank_real = low; index_real = c.requires.in_range; some = omega arith; room = omega arith }) in
     let sz : (g.S.Stack.means y).size ≡ (g.S.Stack.means x).size = p1.stores.size in
     let p2 = put_done g.S.Stack c.put-2.result _ _ _ _ _ _ c.put-2.ensures.refuses c.put-2.ensures.stores (record { bank_real = sp; index_real = omega (arith, c.requires.in_range); some = omega arith; room = omega arith }) in
     record {
       fills = record {
-        run = pieces_put (Accepted g.S.Stack.means g.S.Stack.puts) ms f i x y z c.lower-lower.result c.spare-spare.result c.build-row-row.result c.build-row-row-2.result el es
+        run = pieces_put (Accepted g.S.Stack.means g.S.Stack.puts) ms f i x y z c.lower-lower.result c.spare-spare.result c.build_row-row.result c.build_row-row-2.result el es
             (r1 ∙ ap₂ (λ n d. row n (λ a. line_of (got a)) i d) c.requires.next el)
             (r2 ∙ ap₂ (λ n d. row n (λ a. line_of (got a)) i d) c.requires.next es) p1 p2;
         marks = refl;

@@ -34,12 +34,12 @@ returns g c =
     let x = c.args.self.now.stack in
     let ms = listed c.args.self.now.marks in
     let w = c.args.work.now in
-    let p = c.scrub-with-done.ensures.scrubs (length w) c.if-work-lt4096.false in
+    let p = c.scrub_with-done.ensures.scrubs (length w) c.if-work-lt4096.false in
     record {
       answers_as_ruled = p.answers;
       puts_as_ruled = p.puts;
       marks_as_ruled = p.marks;
-      zeroes_the_work_buffer = front_zeroed 4096 w c.scrub-with-done.new.work c.zero.new.buffer c.if-work-lt4096.false
-          (c.scrub-with-done.auto.work ∙ length-take-le 4096 w c.if-work-lt4096.false) c.zero.ensures.zeros
+      zeroes_the_work_buffer = front_zeroed 4096 w c.scrub_with-done.new.work c.zero.new.buffer c.if-work-lt4096.false
+          (c.scrub_with-done.auto.work ∙ length-take-le 4096 w c.if-work-lt4096.false) c.zero.ensures.zeros
           ∙ sym (ap (λ o. left_over o w) (scrub_open (g.S.Stack.means x) ms c.args.address (length w) (omega (arith, c.size.ensures.is_size)) c.if-work-lt4096.false));
     }

@@ -23,8 +23,8 @@ returns g c =
     let x = c.args.self.now in
     let y = c.put_row.new.self in
     let r = row (listed x.marks) (slots c.args.work.now) c.args.index c.args.bank in
-    let e : part 0 c.build-row-row.result ≡ scrubbed_part x c.args.b c.args.index c.args.work.now c.args.bank =
-    ap (part 0) (c.build-row-row.ensures.is_the_row c.args.index) ∙ ap (λ t. when t (part 0 r)) c.if-not-holds.ensures.tells_whether_it_holds in
+    let e : part 0 c.build_row-row.result ≡ scrubbed_part x c.args.b c.args.index c.args.work.now c.args.bank =
+    ap (part 0) (c.build_row-row.ensures.is_the_row c.args.index) ∙ ap (λ t. when t (part 0 r)) c.if-not-holds.ensures.tells_whether_it_holds in
     record {
       puts_anew = subst (λ (o : Option Part). Ran g.S.Stack x (piece_at o c.args.index c.args.bank []) y) e c.put_row.ensures.puts_it;
       counts = c.put_row.ensures.counts ∙ ap (otherwise_part (g.S.Stack.means x.stack).shown c.args.index c.args.bank) e;

@@ -21,16 +21,16 @@ load-requires g c =
     let count = c.group-lo.ensures.counts in
     record { in_range = c.requires.in_range; real_banks = omega arith; room = c.requires.room }
 
-pub returns-in-err-load : goal.returns-in-err-load
-returns-in-err-load g c =
+pub returns-in_err-load : goal.returns-in_err-load
+returns-in_err-load g c =
     let x = c.args.self.now.stack in
     let ms = listed c.args.self.now.marks in
     let s = state g.S.Stack c.args.self.now in
     let a = c.args.address in
-    let e = c.in-err-load.field-0.0 in
-    let p = err_from_is_err_and c.from-residual.result c.from-residual.ensures.1 in
+    let e = c.in_err-load.field-0.0 in
+    let p = err_from_is_err_and c.from_residual.result c.from_residual.ensures.1 in
     let refuses : first_denied (reading s) (addresses (a / 64) (range_with_len (group_start ms (a % 64)) (group_count ms))) ≡ Some e =
-    ap₂ (λ lo n. first_denied (reading s) (addresses (a / 64) (range_with_len lo n))) (sym c.group-lo.ensures.starts) (sym c.group-lo.ensures.counts) ∙ c.in-err-load.ensures.loads_or_refuses in
+    ap₂ (λ lo n. first_denied (reading s) (addresses (a / 64) (range_with_len lo n))) (sym c.group-lo.ensures.starts) (sym c.group-lo.ensures.counts) ∙ c.in_err-load.ensures.loads_or_refuses in
     rw (p.1, p.2)
     (record {
       scrubs = λ n h.
@@ -47,7 +47,7 @@ returns g c =
     let w = c.load.new.work in
     let load : Loaded (reading s) (a / 64) (group_start ms (a % 64)) (group_count ms) w =
     subst (λ l. Loaded (reading s) (a / 64) l (group_count ms) w) c.group-lo.ensures.starts
-    (subst (λ n. Loaded (reading s) (a / 64) c.group-lo.result.0 n w) c.group-lo.ensures.counts c.in-ok-load.ensures.loads_or_refuses) in
+    (subst (λ n. Loaded (reading s) (a / 64) c.group-lo.result.0 n w) c.group-lo.ensures.counts c.in_ok-load.ensures.loads_or_refuses) in
     let did = c.scrub_group.ensures.puts_anew in
     record {
       scrubs = λ n h.

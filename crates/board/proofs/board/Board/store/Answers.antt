@@ -10,20 +10,20 @@ use Rattle.board.specs.Marks.{listed}
 use Rattle.board.proofs.Seeing.{listed_low}
 use Rattle.board.proofs.board.Board.store.Goals as goal
 
-pub store-bank-requires : goal.store-bank-requires
-store-bank-requires g c = record { in_range = c.requires.in_range; real_bank = omega arith; its_check = c.check-of-check.ensures.is_the_check }
+pub store_bank-requires : goal.store_bank-requires
+store_bank-requires g c = record { in_range = c.requires.in_range; real_bank = omega arith; its_check = c.check_of-check.ensures.is_the_check }
 
-pub store-bank-requires-2 : goal.store-bank-requires-2
-store-bank-requires-2 g c =
+pub store_bank-requires-2 : goal.store_bank-requires-2
+store_bank-requires-2 g c =
     let room = run_size c.store_bank.ensures.stores.run in
-    record { in_range = omega arith; real_bank = omega arith; its_check = c.check-of-check.ensures.is_the_check }
+    record { in_range = omega arith; real_bank = omega arith; its_check = c.check_of-check.ensures.is_the_check }
 
-pub store-bank-requires-in-loop-n : goal.store-bank-requires-in-loop-n
-store-bank-requires-in-loop-n g c =
+pub store_bank-requires-in-loop-n : goal.store_bank-requires-in-loop-n
+store_bank-requires-in-loop-n g c =
     let one = run_size c.store_bank.ensures.stores.run in
-    let two = run_size c.store-bank-2.ensures.stores.run in
+    let two = run_size c.store_bank-2.ensures.stores.run in
     let room = run_size c.loop-n.invariant.run in
-    record { in_range = omega arith; real_bank = omega arith; its_check = c.check-of-check.ensures.is_the_check }
+    record { in_range = omega arith; real_bank = omega arith; its_check = c.check_of-check.ensures.is_the_check }
 
 pub loop-n-init : goal.loop-n-init
 loop-n-init g c = record { run = from_none (Accepted g.S.Stack.means g.S.Stack.puts) _ _ 68 _; marks = refl }
@@ -36,10 +36,10 @@ loop-n-preserved g c =
     let puts = g.S.Stack.puts in
     let p : List ℕ → ℕ → Option Part = λ ms. storing ms (a % 64) c.args.line.now c.args.parity.now in
     record {
-      run = from_more (Accepted means puts) (p (listed c.store-bank-2.new.self.marks)) (a / 64) 68 n _ _ _ c.loop-n.invariant.run
-          (subst (λ m. InOrder means puts c.loop-n.self.stack (piece_at (p (listed m) (68 + n)) (a / 64) (68 + n) []) c.store-bank-in-loop-n.new.self.stack)
-          c.loop-n.invariant.marks c.store-bank-in-loop-n.ensures.stores.run);
-      marks = c.store-bank-in-loop-n.ensures.stores.marks ∙ c.loop-n.invariant.marks;
+      run = from_more (Accepted means puts) (p (listed c.store_bank-2.new.self.marks)) (a / 64) 68 n _ _ _ c.loop-n.invariant.run
+          (subst (λ m. InOrder means puts c.loop-n.self.stack (piece_at (p (listed m) (68 + n)) (a / 64) (68 + n) []) c.store_bank-in-loop-n.new.self.stack)
+          c.loop-n.invariant.marks c.store_bank-in-loop-n.ensures.stores.run);
+      marks = c.store_bank-in-loop-n.ensures.stores.marks ∙ c.loop-n.invariant.marks;
     }
 
 pub returns : goal.returns
@@ -59,11 +59,11 @@ returns g c =
     let plan : List ℕ → ℕ → Option Part = λ l. storing l b new par in
     let p : ℕ → Option Part = plan ms in
     let y = c.store_bank.new.self in
-    let z = c.store-bank-2.new.self in
+    let z = c.store_bank-2.new.self in
     let first_Marks = c.store_bank.ensures.stores.marks in
-    let second_marks : z.marks ≡ x.marks = c.store-bank-2.ensures.stores.marks ∙ first_Marks in
+    let second_marks : z.marks ≡ x.marks = c.store_bank-2.ensures.stores.marks ∙ first_Marks in
     let second : InOrder means puts y.stack (piece_at (p q) i q []) z.stack =
-    subst (λ m. InOrder means puts y.stack (piece_at (plan (listed m) q) i q []) z.stack) first_Marks c.store-bank-2.ensures.stores.run in
+    subst (λ m. InOrder means puts y.stack (piece_at (plan (listed m) q) i q []) z.stack) first_Marks c.store_bank-2.ensures.stores.run in
     let all : c.loop-n.n ≡ 4 = omega arith in
     let rest : InOrder means puts z.stack (along_banks p i (range_with_len 68 4)) c.loop-n.self.stack =
     subst (λ m. InOrder means puts z.stack (along_banks (plan (listed m)) i (range_with_len 68 4)) c.loop-n.self.stack) second_marks

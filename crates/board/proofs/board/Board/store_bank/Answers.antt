@@ -11,7 +11,7 @@ pub returns-in-Second : goal.returns-in-Second
 returns-in-Second g c =
     let ms = listed c.args.self.now.marks in
     let x = c.args.self.now in
-    let y = c.put-when-in-Second.new.self in
+    let y = c.put_when-in-Second.new.self in
     let a = c.args.address in
     let l = c.args.line.now in
     let w = c.args.check.now in
@@ -22,7 +22,7 @@ returns-in-Second g c =
       stores = subst (λ r. Ran g.S.Stack x (piece_at (store_part ms (a % 64) l c.args.parity.now r) (a / 64) c.args.bank []) y)
           c.in-Second.ensures.is_its_role
           (subst (λ bs. Ran g.S.Stack x (piece_at (when (eqb q (a % 64 / 32)) (part (2 * (a % 64 % 32)) bs)) (a / 64) c.args.bank []) y) e
-          c.put-when-in-Second.ensures.puts);
+          c.put_when-in-Second.ensures.puts);
     }
 
 pub returns-in-Retired : goal.returns-in-Retired

@@ -14,11 +14,11 @@ returns g c =
     let m = g.S.Stack.means c.args.self.now.stack in
     let s = state g.S.Stack c.args.self.now in
     let a = c.args.address in
-    let bank = c.parity-bank-bank.ensures.is_parity_bank in
+    let bank = c.parity_bank-bank.ensures.is_parity_bank in
     let fit : Fits m.size (parity_bank ms (a % 64)) (a / 64) 0 64 =
     record { bank_real = parity_real ms (a % 64) (omega arith); index_real = c.requires.in_range; some = omega arith; room = omega arith } in
     let was : c.fetch.new.into ≡ cells m.shown (parity_bank ms (a % 64)) (a / 64) 0 64 =
-    fetched c.fetch.result m.shown m.size c.parity-bank-bank.result (a / 64) 0 64 _ _ c.fetch.ensures.refuses c.fetch.ensures.copies c.told-line
+    fetched c.fetch.result m.shown m.size c.parity_bank-bank.result (a / 64) 0 64 _ _ c.fetch.ensures.refuses c.fetch.ensures.copies c.told-line
     (subst (λ b. Fits m.size b (a / 64) 0 64) (sym bank) fit)
     ∙ ap (λ b. cells m.shown b (a / 64) 0 64) bank in
     record {

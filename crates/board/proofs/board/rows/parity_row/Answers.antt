@@ -13,7 +13,7 @@ loop-n-preserved c =
     let w = c.args.work.now in
     let x = c.args.lo + c.loop-n.n in (
       (λ k h. c.xor_into.ensures.adds k h
-          ∙ ap₂ bit_xor (c.loop-n.invariant.0 k h) (ap (λ xs. get_or xs k 0) c.line-at-line.ensures.is_that_line)
+          ∙ ap₂ bit_xor (c.loop-n.invariant.0 k h) (ap (λ xs. get_or xs k 0) c.line_at-line.ensures.is_that_line)
           ∙ sym (xor_more (λ b. get_or (slot w b) k 0) c.args.lo c.loop-n.n)),
       omega arith,
     )

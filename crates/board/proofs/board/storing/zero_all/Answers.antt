@@ -8,8 +8,8 @@ use Rattle.board.proofs.board.storing.zero_all.Goals as goal
 pub loop-index-init : goal.loop-index-init
 loop-index-init g c = index_none (Accepted g.S.Stack.means g.S.Stack.puts) _ _
 
-pub zero-index-requires : goal.zero-index-requires
-zero-index-requires g c =
+pub zero_index-requires : goal.zero_index-requires
+zero_index-requires g c =
     let room = run_size c.loop-index.invariant in
     record { in_range = omega (arith, c.size-index-end.ensures.is_size) }
 

@@ -11,32 +11,32 @@ use Rattle.board.specs.Marks.{listed}
 use Rattle.board.proofs.Seeing.{role_real}
 use Rattle.board.proofs.marks.Marks.build_row.Goals as goal
 
-pub line-at-requires : goal.line-at-requires
-line-at-requires c = record { real_line = role_real c.args.self.now c.args.bank (Line c.in-Line.b) c.requires.real_bank c.in-Line.ensures.is_its_role; room = c.requires.room }
+pub line_at-requires : goal.line_at-requires
+line_at-requires c = record { real_line = role_real c.args.self.now c.args.bank (Line c.in-Line.b) c.requires.real_bank c.in-Line.ensures.is_its_role; room = c.requires.room }
 
-pub overflow-mul-q : goal.overflow-mul-q
-overflow-mul-q c = let s : c.in-First.q < 4 = role_real c.args.self.now c.args.bank (First c.in-First.q) c.requires.real_bank c.in-First.ensures.is_its_role in omega arith
+pub overflow_mul-q : goal.overflow_mul-q
+overflow_mul-q c = let s : c.in-First.q < 4 = role_real c.args.self.now c.args.bank (First c.in-First.q) c.requires.real_bank c.in-First.ensures.is_its_role in omega arith
 
-pub check-row-requires : goal.check-row-requires
-check-row-requires c =
+pub check_row-requires : goal.check_row-requires
+check_row-requires c =
     let s : c.in-First.q < 4 = role_real c.args.self.now c.args.bank (First c.in-First.q) c.requires.real_bank c.in-First.ensures.is_its_role in
     record { room = c.requires.room; fills_the_row = refl; real_lines = omega arith; real_symbols = omega arith }
 
-pub overflow-mul-q-in-Second : goal.overflow-mul-q-in-Second
-overflow-mul-q-in-Second c = let s = role_real c.args.self.now c.args.bank (Second c.in-Second.q) c.requires.real_bank c.in-Second.ensures.is_its_role in omega (arith, s.0)
+pub overflow_mul-q-in-Second : goal.overflow_mul-q-in-Second
+overflow_mul-q-in-Second c = let s = role_real c.args.self.now c.args.bank (Second c.in-Second.q) c.requires.real_bank c.in-Second.ensures.is_its_role in omega (arith, s.0)
 
-pub check-row-requires-in-Second : goal.check-row-requires-in-Second
-check-row-requires-in-Second c =
+pub check_row-requires-in-Second : goal.check_row-requires-in-Second
+check_row-requires-in-Second c =
     let s = role_real c.args.self.now c.args.bank (Second c.in-Second.q) c.requires.real_bank c.in-Second.ensures.is_its_role in
     record { room = c.requires.room; fills_the_row = refl; real_lines = omega (arith, s.0); real_symbols = omega arith }
 
-pub overflow-mul-g : goal.overflow-mul-g
-overflow-mul-g c =
+pub overflow_mul-g : goal.overflow_mul-g
+overflow_mul-g c =
     let s : c.in-Parity.g < groups (listed c.args.self.now) = role_real c.args.self.now c.args.bank (Parity c.in-Parity.g) c.requires.real_bank c.in-Parity.ensures.is_its_role in
     omega (arith, groups_two (listed c.args.self.now))
 
-pub parity-row-requires : goal.parity-row-requires
-parity-row-requires c =
+pub parity_row-requires : goal.parity_row-requires
+parity_row-requires c =
     let s = role_real c.args.self.now c.args.bank (Parity c.in-Parity.g) c.requires.real_bank c.in-Parity.ensures.is_its_role in
     let room = group_range (listed c.args.self.now) c.in-Parity.g s in
     let lo = c.group-lo.ensures.starts in
@@ -74,9 +74,9 @@ returns-in-Second c =
     let q = c.in-Second.q in
     let s = role_real c.args.self.now c.args.bank (Second q) c.requires.real_bank c.in-Second.ensures.is_its_role in
     record {
-      is_the_row = λ j. fill_by_all (λ k. image ms (slots w) c.args.bank j k) c.check-row-in-Second.result 64 0 (omega arith)
-          (λ k h. subst (λ r. get_or c.check-row-in-Second.result k 0 ≡ image_by ms (slots w) j k r) c.in-Second.ensures.is_its_role
-          (row_second ms w j k h q _ s (c.check-row-in-Second.ensures.has_the_checks k h)));
+      is_the_row = λ j. fill_by_all (λ k. image ms (slots w) c.args.bank j k) c.check_row-in-Second.result 64 0 (omega arith)
+          (λ k h. subst (λ r. get_or c.check_row-in-Second.result k 0 ≡ image_by ms (slots w) j k r) c.in-Second.ensures.is_its_role
+          (row_second ms w j k h q _ s (c.check_row-in-Second.ensures.has_the_checks k h)));
     }
 
 pub returns-in-Fifth : goal.returns-in-Fifth
@@ -84,9 +84,9 @@ returns-in-Fifth c =
     let ms = listed c.args.self.now in
     let w = c.args.work.now in
     record {
-      is_the_row = λ j. fill_by_all (λ k. image ms (slots w) c.args.bank j k) c.check-row-in-Fifth.result 64 0 (omega arith)
-          (λ k h. subst (λ r. get_or c.check-row-in-Fifth.result k 0 ≡ image_by ms (slots w) j k r) c.in-Fifth.ensures.is_its_role
-          (row_fifth ms w j k h _ (c.check-row-in-Fifth.ensures.has_the_checks k h)));
+      is_the_row = λ j. fill_by_all (λ k. image ms (slots w) c.args.bank j k) c.check_row-in-Fifth.result 64 0 (omega arith)
+          (λ k h. subst (λ r. get_or c.check_row-in-Fifth.result k 0 ≡ image_by ms (slots w) j k r) c.in-Fifth.ensures.is_its_role
+          (row_fifth ms w j k h _ (c.check_row-in-Fifth.ensures.has_the_checks k h)));
     }
 
 pub returns-in-Parity : goal.returns-in-Parity

@@ -2,6 +2,6 @@ use Rattle.std.proofs.Common.{rules}
 use Rattle.layers.specs.Lines.{orderly}
 use Rattle.layers.proofs.buffer.LineTable.clear.Goals as goal
 
-pub invariant-of-self : goal.invariant-of-self
+pub invariant_of-self : goal.invariant_of-self
 unfolding orderly
-invariant-of-self c = search rules
+invariant_of-self c = search rules

@@ -2,6 +2,6 @@ use Rattle.std.proofs.Common.{rules}
 use Rattle.layers.specs.Lines.{orderly}
 use Rattle.layers.proofs.buffer.LineTable.new.Goals as goal
 
-pub invariant-of-result : goal.invariant-of-result
+pub invariant_of-result : goal.invariant_of-result
 unfolding orderly
-invariant-of-result c = search rules
+invariant_of-result c = search rules

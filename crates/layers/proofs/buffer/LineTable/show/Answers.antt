@@ -16,11 +16,11 @@ returns c =
     let w = at.within in
     let hj : j < n = omega (arith, w, length-take n xs) in
     let count = length c.args.into.now in
-    let e : c.copy-from-slice.new.self ≡ take count (drop c.args.from (get_or (take n xs) j d).bytes) =
-    c.copy-from-slice.ensures.after
+    let e : c.copy_from_slice.new.self ≡ take count (drop c.args.from (get_or (take n xs) j d).bytes) =
+    c.copy_from_slice.ensures.after
     ∙ ap (λ (k : ℕ). take k (drop c.args.from (get_or xs j d).bytes)) (omega arith)
     ∙ ap (λ (l : BufferedLine). take count (drop c.args.from l.bytes)) (sym (get_or-take n xs j d hj)) in
     record {
       found = sym at.is;
-      copies = part_shown (take n xs) p j count d c.copy-from-slice.new.self at e c.copy-from-slice.ensures.len (λ k. omega (arith, c.type-inv.into k));
+      copies = part_shown (take n xs) p j count d c.copy_from_slice.new.self at e c.copy_from_slice.ensures.len (λ k. omega (arith, c.type_inv.into k));
     }

@@ -6,6 +6,6 @@ pub returns-in-Flip : goal.returns-in-Flip
 unfolding outlasts
 returns-in-Flip c = search rules
 
-pub returns-in-default : goal.returns-in-default
+pub returns-in_default : goal.returns-in_default
 unfolding outlasts
-returns-in-default c = search rules
+returns-in_default c = search rules

@@ -4,23 +4,23 @@ use Rattle.layers.specs.Faults.{corrupted}
 use Rattle.layers.proofs.FaultLaws.{acting}
 use Rattle.layers.proofs.injector.calls.show.Goals as goal
 
-pub overflow-sub-at : goal.overflow-sub-at
-overflow-sub-at c = let a = acting c.args.fault.now _ _ _ _ (sym c.if-acts-on.ensures.tells) in a.low
+pub overflow_sub-at : goal.overflow_sub-at
+overflow_sub-at c = let a = acting c.args.fault.now _ _ _ _ (sym c.if-acts_on.ensures.tells) in a.low
 
 pub bounds-into-at : goal.bounds-into-at
-bounds-into-at c = let a = acting c.args.fault.now _ _ _ _ (sym c.if-acts-on.ensures.tells) in omega arith
+bounds-into-at c = let a = acting c.args.fault.now _ _ _ _ (sym c.if-acts_on.ensures.tells) in omega arith
 
-pub bounds-into-at-then-acts-on : goal.bounds-into-at-then-acts-on
-bounds-into-at-then-acts-on c = let a = acting c.args.fault.now _ _ _ _ (sym c.if-acts-on.ensures.tells) in omega arith
+pub bounds-into-at-then-acts_on : goal.bounds-into-at-then-acts_on
+bounds-into-at-then-acts_on c = let a = acting c.args.fault.now _ _ _ _ (sym c.if-acts_on.ensures.tells) in omega arith
 
-pub returns-then-acts-on : goal.returns-then-acts-on
+pub returns-then-acts_on : goal.returns-then-acts_on
 unfolding corrupted
-returns-then-acts-on c = record {
+returns-then-acts_on c = record {
   shows =
       ap (λ (v : ℕ). set c.args.into.now (c.args.fault.now.byte - c.args.from) v) c.alter.ensures.is_altered
-      ∙ sym (cond-true _ _ _ (sym c.if-acts-on.ensures.tells));
+      ∙ sym (cond-true _ _ _ (sym c.if-acts_on.ensures.tells));
 }
 
-pub returns-else-acts-on : goal.returns-else-acts-on
+pub returns-else-acts_on : goal.returns-else-acts_on
 unfolding corrupted
-returns-else-acts-on c = record { shows = sym (cond-false _ _ _ (sym c.if-acts-on.ensures.tells)) }
+returns-else-acts_on c = record { shows = sym (cond-false _ _ _ (sym c.if-acts_on.ensures.tells)) }

@@ -10,7 +10,7 @@ returns c =
     let e : 4 * (at / 4) + at % 4 ≡ at = omega arith in
     record {
       reads =
-          ap (λ (bs : List ℕ). get_or bs (at % 4) 0) c.to-le-bytes-lanes.ensures
+          ap (λ (bs : List ℕ). get_or bs (at % 4) 0) c.to_le_bytes-lanes.ensures
           ∙ sym (getD_bytes_of ws (at / 4) (at % 4) (omega arith) (omega arith))
           ∙ ap (λ (q : ℕ). get_or (bytes_of ws) q 0) e;
     }

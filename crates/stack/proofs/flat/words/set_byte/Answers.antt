@@ -8,11 +8,11 @@ returns c =
     let ws = c.args.words.now in
     let at = c.args.at in
     let e : 4 * (at / 4) + at % 4 ≡ at = omega arith in
-    let lanes = ap (λ (bs : List ℕ). set bs (at % 4) c.args.b) c.to-le-bytes-lanes.ensures in
+    let lanes = ap (λ (bs : List ℕ). set bs (at % 4) c.args.b) c.to_le_bytes-lanes.ensures in
     let byte : c.args.b < 256 = omega arith in
     record {
       writes =
-          set_bytes_of ws (at / 4) (at % 4) c.from-le-bytes.result c.args.b (omega arith) (omega arith)
-          (lane_set (get_or ws (at / 4) 0) (at % 4) c.args.b c.from-le-bytes.result _ (omega arith) byte lanes c.from-le-bytes.ensures)
+          set_bytes_of ws (at / 4) (at % 4) c.from_le_bytes.result c.args.b (omega arith) (omega arith)
+          (lane_set (get_or ws (at / 4) 0) (at % 4) c.args.b c.from_le_bytes.result _ (omega arith) byte lanes c.from_le_bytes.ensures)
           ∙ ap (λ (q : ℕ). set (bytes_of ws) q c.args.b) e;
     }

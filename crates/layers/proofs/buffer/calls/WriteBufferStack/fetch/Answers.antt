@@ -8,14 +8,14 @@ use Rattle.layers.proofs.buffer.calls.WriteBufferStack.fetch.Goals as goal
 
 pub show-requires : goal.show-requires
 show-requires g c =
-    let f = fits _ _ _ _ _ (sym c.if-is-outside.ensures.is_outside) in
+    let f = fits _ _ _ _ _ (sym c.if-is_outside.ensures.is_outside) in
     record { part = f.room }
 
 pub returns-then-show : goal.returns-then-show
 returns-then-show g c =
     let n = length c.args.into.now in
     let in' : outside (g.S.Stack.means c.args.self.now.below).size c.args.bank c.args.index c.args.from n ≡ false =
-    ap (λ (q : ℕ). outside q c.args.bank c.args.index c.args.from n) (sym c.size.ensures.is_size) ∙ sym c.if-is-outside.ensures.is_outside in
+    ap (λ (q : ℕ). outside q c.args.bank c.args.index c.args.from n) (sym c.size.ensures.is_size) ∙ sym c.if-is_outside.ensures.is_outside in
     record {
       refuses = ap judged (sym in');
       copies =

@@ -10,7 +10,7 @@ use Rattle.layers.proofs.buffer.calls.WriteBufferStack.put.Goals as goal
 
 pub rewrite-requires : goal.rewrite-requires
 rewrite-requires g c =
-    let f = fits _ _ _ _ _ (sym c.if-is-outside.ensures.is_outside) in
+    let f = fits _ _ _ _ _ (sym c.if-is_outside.ensures.is_outside) in
     record { part = f.room }
 
 pub returns-then-rewrite : goal.returns-then-rewrite
@@ -20,13 +20,13 @@ returns-then-rewrite g c =
     let ls = lines_in s.table in
     let p : Piece = piece c.args.bank c.args.index c.args.from c.args.bytes.now in
     let in' : outside x.size p.bank p.index p.from (length p.bytes) ≡ false =
-    ap (λ (q : ℕ). outside q p.bank p.index p.from (length p.bytes)) (sym c.size.ensures.is_size) ∙ sym c.if-is-outside.ensures.is_outside in
+    ap (λ (q : ℕ). outside q p.bank p.index p.from (length p.bytes)) (sym c.size.ensures.is_size) ∙ sym c.if-is_outside.ensures.is_outside in
     let f = fits _ _ _ _ _ in' in
     let is : is_buffered ls p.bank p.index ≡ true = sym c.if-rewrite.ensures.found in
     record {
       refuses = ap judged (sym in');
       stores = record {
-        stores = stores_held ls (lines_in c.rewrite.new.self) x p (λ k. omega (arith, c.type-inv.bytes k)) f.room s.table.order is c.rewrite.ensures.writes;
+        stores = stores_held ls (lines_in c.rewrite.new.self) x p (λ k. omega (arith, c.type_inv.bytes k)) f.room s.table.order is c.rewrite.ensures.writes;
         exactly = rw (absorbed_held ls p is) (refl, c.rewrite.ensures.writes);
       };
     }
@@ -48,7 +48,7 @@ returns-then-accepts g c =
     let ls = lines_in s.table in
     let p : Piece = piece c.args.bank c.args.index c.args.from c.args.bytes.now in
     let in' : outside x.size p.bank p.index p.from (length p.bytes) ≡ false =
-    ap (λ (q : ℕ). outside q p.bank p.index p.from (length p.bytes)) (sym c.size.ensures.is_size) ∙ sym c.if-is-outside.ensures.is_outside in
+    ap (λ (q : ℕ). outside q p.bank p.index p.from (length p.bytes)) (sym c.size.ensures.is_size) ∙ sym c.if-is_outside.ensures.is_outside in
     let f = fits _ _ _ _ _ in' in
     let same = c.if-rewrite.ensures.stays refl in
     let none : is_buffered ls p.bank p.index ≡ false = sym c.if-rewrite.ensures.found in
@@ -58,7 +58,7 @@ returns-then-accepts g c =
     record {
       refuses = ap judged (sym in');
       stores = record {
-        stores = stores_more ls (lines_in c.push.new.self) x p (λ k. omega (arith, c.type-inv.bytes k)) f.room none whole adds;
+        stores = stores_more ls (lines_in c.push.new.self) x p (λ k. omega (arith, c.type_inv.bytes k)) f.room none whole adds;
         exactly = rw (absorbed_more ls p none room) (refl, adds);
       };
     }
@@ -78,7 +78,7 @@ returns g c =
       stores =
           stored_by c.put.result c.put.ensures.stores
           (λ down. record {
-            stores = stores_down ls (lines_in c.rewrite.new.self) x p (λ k. omega (arith, c.type-inv.bytes k)) (g.S.Stack.means c.put.new.self) none down.stores (ap lines_in same);
+            stores = stores_down ls (lines_in c.rewrite.new.self) x p (λ k. omega (arith, c.type_inv.bytes k)) (g.S.Stack.means c.put.new.self) none down.stores (ap lines_in same);
             exactly = rw (absorbed_down ls p none room) (down, same);
           })
           (λ e. same_buffer e same);

@@ -8,7 +8,7 @@ pub returns : goal.returns
 returns g c =
     let fs = faults_in c.args.self.now.table in
     let shown : c.show_all.new.into ≡ corrupted_all fs c.args.bank c.args.index c.args.from c.fetch.new.into = search rules in
-    let below = c.in-ok-fetch.ensures in
+    let below = c.in_ok-fetch.ensures in
     record {
       refuses = below.refuses;
       copies =

@@ -10,7 +10,7 @@ returns g c =
     let fs = faults_in c.args.self.now.table in
     let p : Piece = piece c.args.bank c.args.index c.args.from c.args.bytes.now in
     let gone : faults_in c.remove_flips.new.self ≡ outlasting p fs = search rules in
-    let below = c.in-ok-put.ensures in
+    let below = c.in_ok-put.ensures in
     record {
       refuses = below.refuses;
       stores = record {

@@ -11,6 +11,6 @@ returns c =
     record {
       copies =
           flat_cells xs c.read_at.new.into c.args.bank c.args.index c.args.from n c.start-at.result s
-          (c.read_at.ensures.copies ∙ ap (λ (ys : List ℕ). take n (drop c.start-at.result ys)) c.as-slice.ensures.value)
-          (λ k. omega (arith, c.type-inv.into k)) c.read_at.auto.into;
+          (c.read_at.ensures.copies ∙ ap (λ (ys : List ℕ). take n (drop c.start-at.result ys)) c.as_slice.ensures.value)
+          (λ k. omega (arith, c.type_inv.into k)) c.read_at.auto.into;
     }

@@ -13,9 +13,9 @@ returns c =
     let ys = c.write_at.new.bytes in
     let e : c.write_at.new.bytes ≡ written xs p =
     c.write_at.ensures.writes
-    ∙ ap (λ (zs : List ℕ). replaced zs c.start-at.result p.bytes) c.as-mut-slice.ensures.value
+    ∙ ap (λ (zs : List ℕ). replaced zs c.start-at.result p.bytes) c.as_mut_slice.ensures.value
     ∙ ap (λ (q : ℕ). replaced xs q p.bytes) s.at_is in
-    let all = take_at ys (drop (length ys) c.args.self.now.bytes.items) c.args.self.now.bytes.len (c.write_at.auto.bytes ∙ c.as-mut-slice.ensures.len) ∙ e in
+    let all = take_at ys (drop (length ys) c.args.self.now.bytes.items) c.args.self.now.bytes.len (c.write_at.auto.bytes ∙ c.as_mut_slice.ensures.len) ∙ e in
     record {
-      stores = record { stores = flat_stores xs p c.start-at.result s _ (λ k. omega (arith, c.type-inv.bytes k)) all; exactly = all };
+      stores = record { stores = flat_stores xs p c.start-at.result s _ (λ k. omega (arith, c.type_inv.bytes k)) all; exactly = all };
     }

@@ -11,5 +11,5 @@ returns c =
     record {
       copies =
           flat_cells xs c.read_at.new.into c.args.bank c.args.index c.args.from n c.start-at.result s
-          c.read_at.ensures.copies (λ k. omega (arith, c.type-inv.into k)) c.read_at.auto.into;
+          c.read_at.ensures.copies (λ k. omega (arith, c.type_inv.into k)) c.read_at.auto.into;
     }

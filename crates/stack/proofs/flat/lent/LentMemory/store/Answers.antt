@@ -12,7 +12,7 @@ returns c =
     let all : c.write_at.new.bytes ≡ written xs p = c.write_at.ensures.writes ∙ ap (λ (q : ℕ). replaced xs q p.bytes) s.at_is in
     record {
       stores = record {
-        stores = flat_stores xs p c.start-at.result s _ (λ k. omega (arith, c.type-inv.bytes k)) all;
+        stores = flat_stores xs p c.start-at.result s _ (λ k. omega (arith, c.type_inv.bytes k)) all;
         exactly = record { loan = refl; bytes = all };
       };
     }

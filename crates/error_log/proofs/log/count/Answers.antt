@@ -1,11 +1,11 @@
 use Rattle.std.proofs.Common.{◌≡◌, ℕ, ◌+◌, ◌<◌, ◌≤◌, true, false, cond, eqb, List, length, get_or, take, sym, refl, ap, ◌∙◌, add-zero, arith}
 use Rattle.std.proofs.lemmas.List.{take_all}
 use Rattle.std.proofs.lemmas.Bool.{eq-eqb, ne_eqb, cond-true, cond-false}
-use Rattle.log.specs.Notes.{tally_of}
-use Rattle.log.proofs.Tallies.{tally_more, tally_none}
-use Rattle.log.specs.declared.note.Note.{Note}
-use Rattle.log.proofs.log.count.Goals as goal
-use Rattle.log.proofs.log.count.Goals.{then-note-bank, else-note-bank}
+use Rattle.error_log.specs.Notes.{tally_of}
+use Rattle.error_log.proofs.Tallies.{tally_more, tally_none}
+use Rattle.error_log.specs.declared.note.Note.{Note}
+use Rattle.error_log.proofs.log.count.Goals as goal
+use Rattle.error_log.proofs.log.count.Goals.{then-note-bank, else-note-bank}
 
 pub loop-note-init : goal.loop-note-init
 loop-note-init c = (sym (tally_none c.args.bank), omega arith)

@@ -1,6 +1,6 @@
 // Notes on lines that were corrected, rebuilt or refused.
 ghost use Rattle.std.specs.Prelude.{◌≡◌};
-ghost use Rattle.log.specs.Notes.{kind_number, due as due_for};
+ghost use Rattle.error_log.specs.Notes.{kind_number, due as due_for};
 
 use codec::word::Finding;
 use stack::located::Located;

@@ -4,9 +4,9 @@ use Rattle.codec.specs.declared.word.Finding.{Finding}
 use Rattle.codec.specs.declared.word.Finding.TheVariants.{Clean, Corrected, Rebuilt, RebuiltCorrected}
 use Rattle.stack.specs.declared.refusal.Refusal.{Refusal}
 use Rattle.stack.specs.declared.refusal.Refusal.TheVariants as refusal
-use Rattle.log.specs.declared.note.Kind.{Kind}
-use Rattle.log.specs.declared.note.Kind.TheVariants as kind
-use Rattle.log.specs.declared.note.Note.{Note}
+use Rattle.error_log.specs.declared.note.Kind.{Kind}
+use Rattle.error_log.specs.declared.note.Kind.TheVariants as kind
+use Rattle.error_log.specs.declared.note.Note.{Note}
 
 -- the number of each kind of note
 abbrev pub kind_number : Kind → ℕ

@@ -1,7 +1,7 @@
 // The error log: a host's list of notes, and what it tells of the banks.
 ghost use Rattle.std.specs.Prelude.{◌≡◌, ℕ, ◌<◌, ◌≤◌, List, length, Some, None};
 ghost use Rattle.stack.specs.Firsts.{first_of};
-ghost use Rattle.log.specs.Notes.{entries_of, tally_of, share_of, worst_of, Worst, Noted, bank_in, index_in};
+ghost use Rattle.error_log.specs.Notes.{entries_of, tally_of, share_of, worst_of, Worst, Noted, bank_in, index_in};
 
 use crate::note::{Note, due};
 use codec::word::Finding;

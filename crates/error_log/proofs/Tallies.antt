@@ -3,8 +3,8 @@ use Rattle.std.proofs.Common.{◌≡◌, ℕ, zero, suc, ◌+◌, ◌-◌, ◌*�
 use Rattle.std.proofs.lemmas.List.{take_more}
 use Rattle.std.proofs.lemmas.Bool.{cases_lt, cond-true, cond-false, lt-ltb, le-ltb}
 use Rattle.std.proofs.lemmas.Bool.Decides.{nat_tests}
-use Rattle.log.specs.declared.note.Note.{Note}
-use Rattle.log.specs.Notes.{tally_of, highest, worst_of, Worst}
+use Rattle.error_log.specs.declared.note.Note.{Note}
+use Rattle.error_log.specs.Notes.{tally_of, highest, worst_of, Worst}
 
 tally_append : (b : ℕ) (xs ys : List Note) → tally_of b (xs ++ ys) ≡ tally_of b xs + tally_of b ys
 unfolding tally_of

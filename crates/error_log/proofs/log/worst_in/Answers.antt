@@ -1,14 +1,14 @@
 use Rattle.std.proofs.Common.{◌≡◌, ℕ, suc, ◌+◌, ◌-◌, ◌<◌, ◌≤◌, List, length, Some, sym, refl, ap, ◌∙◌, subst, arith}
 use Rattle.std.proofs.lemmas.Bool.{eqb-true, eqb-false}
-use Rattle.log.specs.Notes.{tally_of, highest, Worst}
-use Rattle.log.proofs.Tallies.{higher, no_higher, first_bank, worst_some, worst_is, no_notes}
-use Rattle.log.specs.declared.note.Note.{Note}
-use Rattle.log.proofs.log.worst_in.Goals as goal
-use Rattle.log.proofs.log.worst_in.Goals.{then-tally-most, else-tally-most}
+use Rattle.error_log.specs.Notes.{tally_of, highest, Worst}
+use Rattle.error_log.proofs.Tallies.{higher, no_higher, first_bank, worst_some, worst_is, no_notes}
+use Rattle.error_log.specs.declared.note.Note.{Note}
+use Rattle.error_log.proofs.log.worst_in.Goals as goal
+use Rattle.error_log.proofs.log.worst_in.Goals.{then-tally-most, else-tally-most}
 
-pub returns-then-is-empty : goal.returns-then-is-empty
-returns-then-is-empty c =
-    let n = no_notes c.args.notes.now (eqb-true (length c.args.notes.now) 0 (sym c.if-is-empty.ensures)) in
+pub returns-then-is_empty : goal.returns-then-is_empty
+returns-then-is_empty c =
+    let n = no_notes c.args.notes.now (eqb-true (length c.args.notes.now) 0 (sym c.if-is_empty.ensures)) in
     record { is_the_worst_bank = n.0; has_the_highest_tally = n.1 }
 
 pub loop-bank-init : goal.loop-bank-init
@@ -37,14 +37,14 @@ loop-bank-preserved c =
     let t : c.count-tally.result ≡ tally_of (suc k) ns = c.count-tally.ensures.is_the_tally ∙ ap (λ b. tally_of b ns) s in
     elim c.if-tally-most.branch [
       | then-tally-most w ↦ (
-        above ns k c.loop-bank.worst c.loop-bank.most c.count-tally.result c.if-tally-most.worst inv.0 inv.1 t w.if-tally-most.true (w.worst_is ∙ s)
+        above ns k c.loop-bank.worst c.loop-bank.most c.count-tally.result c.if-tally-most.worst inv.0 inv.1 t w.if-tally-most.true (w.worst-is ∙ s)
             ∙ ap (highest ns) z,
-        w.most-is ∙ c.count-tally.ensures.is_the_tally ∙ ap (λ b. tally_of b ns) (sym w.worst_is),
+        w.most-is ∙ c.count-tally.ensures.is_the_tally ∙ ap (λ b. tally_of b ns) (sym w.worst-is),
       )
       | else-tally-most w ↦ (
-        below ns k c.loop-bank.worst c.loop-bank.most c.count-tally.result c.if-tally-most.worst inv.0 inv.1 t w.if-tally-most.false w.worst_is
+        below ns k c.loop-bank.worst c.loop-bank.most c.count-tally.result c.if-tally-most.worst inv.0 inv.1 t w.if-tally-most.false w.worst-is
             ∙ ap (highest ns) z,
-        w.most-is ∙ inv.1 ∙ ap (λ b. tally_of b ns) (sym w.worst_is),
+        w.most-is ∙ inv.1 ∙ ap (λ b. tally_of b ns) (sym w.worst-is),
       )
     ]
 
@@ -53,5 +53,5 @@ returns c =
     let ns : List Note = c.args.notes.now in
     let n : c.loop-bank.bank - 1 ≡ 63 = (let l = c.loop-bank-test.false in let u = c.loop-bank.auto.bank-end in omega arith) in
     let e : c.loop-bank.worst ≡ highest ns 63 = c.loop-bank.invariant.0 ∙ ap (highest ns) n in
-    let f : 0 < length ns = (let z = eqb-false (length ns) 0 (sym c.if-is-empty.ensures) in omega arith) in
+    let f : 0 < length ns = (let z = eqb-false (length ns) 0 (sym c.if-is_empty.ensures) in omega arith) in
     record { is_the_worst_bank = ap Some e ∙ worst_some ns f; has_the_highest_tally = subst (λ b. Worst ns (Some b)) (sym e) (worst_is ns) }
