@@ -4,10 +4,9 @@
 # Needs gcc and Debian's libfec-dev.
 set -e
 cd "$(dirname "$0")/../.."
-rt staticlib ffi > /dev/null
-kit=$(dirname "$(dirname "$(rt doc)")")
+tools/static_library.sh ffi
 compare=target/second_program
-gcc -O2 -Wall -Wextra -Iinclude -o $compare tools/second_program/compare.c target/staticlib/libffi.a "$kit/lib/librattle_c.a" -lfec -lm
+gcc -O2 -Wall -Wextra -Iinclude -o $compare tools/second_program/compare.c target/staticlib/libffi.a -lfec -lm
 if [ "$1" != --table ]; then
     stored=crates/vectors/src/damaged.rt
     words=$(sed -n 's/^pub const DAMAGED: \[Damaged; \([0-9]*\)\].*/\1/p' $stored)
