@@ -1,3 +1,5 @@
+#![tactic(auto)]
+
 // Tests of the board.
 #[cfg(test)]
 mod tests;

@@ -1,12 +1,10 @@
 -- The check symbols of a line bring its sums to zero.
-use Rattle.std.proofs.Common.{◌≡◌, ℕ, zero, suc, ◌+◌, ◌<◌, ◌≤◌, List, [], ◌∷◌, ◌++◌, length, get_or, sym, refl, ap, ◌∙◌, subst, ap₂, ⊎_elim, le_refl, zero-add, arith, length-append}
+use Rattle.std.proofs.Common.{◌≡◌, ℕ, ◌+◌, ◌<◌, ◌≤◌, List, [], ◌∷◌, ◌++◌, length, sym, refl, ap, ◌∙◌, subst, ap₂, ⊎_elim, le_refl, zero-add, arith, length-append}
 use Rattle.std.proofs.lemmas.Bool.{cases_eq}
 use Rattle.std.proofs.lemmas.Bool.Decides.{nat_tests}
 use lib.Bits.{bit_xor, xor_assoc, xor_self, xor_zero_r}
-use Rattle.field.specs.Field.{timesZ, mulLow, mul, pow, raise}
-use Rattle.codec.specs.Word.{locator, coeff, weighted, syndrome, Codeword}
-use Rattle.field.proofs.Xor.{xors}
-use Rattle.field.proofs.FieldLaws.{mul_comm, mul_assoc, mul_left_comm, mul_xor_l, mul_zero_l, mul_zero_r, mul_one_l, mul_one_r}
+use Rattle.codec.specs.Word.{coeff, weighted, syndrome, Codeword}
+use Rattle.field.proofs.FieldLaws.{mul_zero_r, mul_one_r}
 use Rattle.codec.proofs.Sums.{weighted_append, weighted_none}
 
 -- ---- the whole word

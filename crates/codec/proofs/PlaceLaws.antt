@@ -1,10 +1,10 @@
 -- What one symbol adds to the sums, and the place that S_0 and S_1 point at.
-use Rattle.std.proofs.Common.{◌≡◌, ℕ, zero, suc, ◌+◌, ◌-◌, ◌*◌, ◌%◌, ◌<◌, ◌≤◌, ◌≢◌, ◌⊎◌, List, [], ◌∷◌, length, get_or, sym, refl, ap, ◌∙◌, subst, ap₂, inl, inr, ⊎_elim, arith, lit<}
+use Rattle.std.proofs.Common.{◌≡◌, ℕ, zero, suc, ◌+◌, ◌-◌, ◌*◌, ◌%◌, ◌<◌, ◌≤◌, ◌≢◌, ◌⊎◌, [], ◌∷◌, get_or, sym, refl, ap, ◌∙◌, ap₂, inl, inr, ⊎_elim, arith, lit<}
 use Rattle.std.proofs.lemmas.Bool.{cases_lt}
 use Rattle.std.proofs.lemmas.Bool.Decides.{nat_tests}
 use Rattle.field.specs.Field.{mul, pow, raise, terms}
 use Rattle.codec.specs.Word.{locator, coeff}
-use Rattle.field.proofs.FieldLaws.{mul_zero_l, mul_zero_r, mul_one_r, mul_pow, pow_mod, pow_lt, pow_nonzero, pow_distinct, mul_cancel_zero}
+use Rattle.field.proofs.FieldLaws.{mul_zero_r, mul_one_r, mul_pow, pow_mod, pow_lt, pow_nonzero, pow_distinct, mul_cancel_zero}
 use Rattle.codec.proofs.RowLaws.{coeff_pow}
 use Rattle.codec.proofs.WordLaws.{coeff_low}
 

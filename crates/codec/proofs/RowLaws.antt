@@ -1,7 +1,7 @@
 -- The check of a line by rows of eight bytes: what one more row does to it.
-use Rattle.std.proofs.Common.{◌≡◌, ℕ, zero, suc, ◌+◌, ◌-◌, ◌*◌, ◌/◌, ◌%◌, ◌^◌, ◌<◌, ◌≤◌, T, eqb, List, [], ◌∷◌, ◌++◌, length, get_or, sym, refl, ap, ◌∙◌, subst, ap₂, add-mul, suc-add, zero-add, arith, lit<, eqb→eq, length-append}
-use lib.Bits.{bit_xor, xor_shr, xor_mod, xor_zero_r}
-use Rattle.field.specs.Field.{timesZ, mulLow, mul, pow, raise}
+use Rattle.std.proofs.Common.{◌≡◌, ℕ, zero, suc, ◌+◌, ◌-◌, ◌*◌, ◌/◌, ◌%◌, ◌^◌, ◌<◌, ◌≤◌, T, eqb, List, [], ◌∷◌, ◌++◌, length, sym, refl, ap, ◌∙◌, ap₂, add-mul, suc-add, zero-add, arith, lit<, length-append}
+use lib.Bits.{bit_xor, xor_shr, xor_mod}
+use Rattle.field.specs.Field.{timesZ, mulLow, mul, pow}
 use Rattle.codec.specs.Word.{locator, coeff, weighted}
 use Rattle.field.specs.Rows.{lane, packed, share, part, carried, advanced}
 use Rattle.field.proofs.Every.{every, same}

@@ -1,6 +1,6 @@
 -- What decoding a shown word and judging a rebuilt word give, first as functions, then as the rules have it.
 -- A word's length says whether it is full (70 symbols) or short (69).
-use Rattle.std.specs.Prelude.{◌≡◌, ℕ, zero, suc, ◌-◌, ◌<◌, Bool, true, false, cond, ◌&&◌, List, ◌++◌, length, take, replicate, Some, None, Option, ◌==◌, slice_index}
+use Rattle.std.specs.Prelude.{◌≡◌, ℕ, zero, suc, ◌-◌, ◌<◌, Bool, true, false, cond, ◌&&◌, List, length, take, replicate, Some, None, Option, ◌==◌, slice_index}
 use Rattle.codec.specs.declared.word.Finding.{Finding}
 use Rattle.codec.specs.declared.word.Finding.TheVariants.{Clean, Corrected, Rebuilt, RebuiltCorrected}
 use Rattle.codec.specs.Word.{syndrome, Codeword, Consistent, Corrects, corrected}

@@ -1,4 +1,6 @@
 // Makes the codeword of a line, changes it as told, and says what decoding it gives.
+#![tactic(auto)]
+
 mod input;
 mod shown;
 mod text;

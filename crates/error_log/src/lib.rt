@@ -1,2 +1,4 @@
+#![tactic(auto)]
+
 pub mod log;
 pub mod note;

@@ -1,6 +1,5 @@
 -- What a host in C is told of an answer, in numbers.
 use Rattle.std.specs.Prelude.{ℕ}
-use Rattle.codec.specs.Shown.{number_of}
 use Rattle.codec.specs.declared.word.Finding.{Finding}
 use Rattle.codec.specs.declared.word.Finding.TheVariants.{Clean, Corrected, Rebuilt, RebuiltCorrected}
 use Rattle.rules.specs.declared.calls.Answer.{Answer}

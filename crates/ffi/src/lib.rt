@@ -1,4 +1,6 @@
 // What a program in another language calls over the static library.
+#![tactic(auto)]
+
 pub mod banks;
 pub mod boards;
 mod lent;

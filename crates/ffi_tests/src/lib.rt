@@ -1,3 +1,5 @@
+#![tactic(auto)]
+
 // The functions for C, called as C calls them: a pointer and a length is a slice here.
 #[cfg(test)]
 mod tests {

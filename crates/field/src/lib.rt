@@ -1,3 +1,5 @@
+#![tactic(auto)]
+
 pub mod arithmetic;
 mod carry_table;
 mod logs;

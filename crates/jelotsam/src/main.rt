@@ -1,4 +1,6 @@
 // Runs the script on standard input and writes its output to standard output.
+#![tactic(auto)]
+
 use script::{LONGEST, run};
 use std::io::{Read, Write};
 

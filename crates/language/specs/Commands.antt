@@ -1,5 +1,5 @@
 -- The command that a line spells.
-use Rattle.std.specs.Prelude.{ℕ, Bool, true, false, cond, List, [], ◌∷◌, length, Some, None, Option, ◌==◌, slice_index_or}
+use Rattle.std.specs.Prelude.{ℕ, cond, List, [], ◌∷◌, length, Some, None, Option, ◌==◌, slice_index_or}
 use Rattle.layers.specs.declared.fault.Fault.{Fault}
 use Rattle.layers.specs.declared.fault.FaultKind.{FaultKind}
 use Rattle.rules.specs.declared.calls.Call.{Call}

@@ -1,5 +1,5 @@
 -- Replies, and how they are written.
-use Rattle.std.specs.Prelude.{ℕ, ◌+◌, ◌/◌, ◌%◌, Bool, true, false, cond, List, [], ◌∷◌, ◌++◌, Some, None, Ok, Err, decimal, Option, Result, nat_lt, slice_index}
+use Rattle.std.specs.Prelude.{ℕ, ◌+◌, ◌/◌, ◌%◌, cond, List, [], ◌∷◌, ◌++◌, Some, None, Ok, Err, decimal, Option, Result, nat_lt, slice_index}
 use Rattle.codec.specs.Shown.{number_of}
 use Rattle.stack.specs.Refusals.{numbered}
 use Rattle.stack.specs.declared.refusal.Refusal.{Refusal}

@@ -1,5 +1,5 @@
 -- What single fields spell.
-use Rattle.std.specs.Prelude.{ℕ, ◌+◌, ◌-◌, ◌*◌, Bool, true, false, cond, ◌&&◌, List, [], ◌∷◌, length, Some, None, Option, ◌==◌, nat_le}
+use Rattle.std.specs.Prelude.{ℕ, ◌+◌, ◌-◌, ◌*◌, Bool, cond, ◌&&◌, List, [], ◌∷◌, length, Some, None, Option, ◌==◌, nat_le}
 use Rattle.layers.specs.declared.fault.FaultKind.{FaultKind}
 use Rattle.layers.specs.declared.fault.FaultKind.TheVariants.{Flip, StuckAtOne, StuckAtZero}
 

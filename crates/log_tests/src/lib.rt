@@ -1,3 +1,5 @@
+#![tactic(auto)]
+
 // Tests of the error log.
 #[cfg(test)]
 mod tests {

@@ -1,21 +1,20 @@
 -- Calls on boards, from what the board promises.
-use Rattle.std.proofs.Common.{◌≡◌, ℕ, ◌*◌, ◌<◌, ◌≤◌, Bool, true, false, cond, T, eqb, leb, List, [], ◌∷◌, ◌++◌, Some, Decides, sym, refl, ap, ◌∙◌, subst, inl, inr}
+use Rattle.std.proofs.Common.{◌≡◌, ℕ, Bool, true, false, T, List, [], Some, Decides, sym, refl, ap, ◌∙◌, inl, inr}
 use Rattle.codec.specs.declared.word.Finding.{Finding}
 use Rattle.std.specs.List.{range_with_len}
-use Rattle.std.proofs.lemmas.Bool.{cases_Bool, true≢false, false≢true, cond-false, cond-true, le-leb, ne_eqb}
-use Rattle.stack.specs.Pieces.{InOrder}
+use Rattle.std.proofs.lemmas.Bool.{cases_Bool, false≢true, cond-false, cond-true}
 use Rattle.stack.specs.declared.memory.Stack.{Ghosts}
-use Rattle.rules.specs.Rules.{State, HostCall, accepted, along, answer, plan, puts}
+use Rattle.rules.specs.Rules.{State, HostCall, accepted, answer, plan, puts}
 use Rattle.rules.specs.History.{Given, Step}
 use Rattle.rules.specs.Theorem.{line_handed}
 use Rattle.rules.specs.declared.calls.Answer.{Answer}
 use Rattle.rules.specs.declared.calls.Answer.TheVariants.{HandedOut}
 use Rattle.rehearsal.specs.Theorem.{ExactlyWhen, HandsOutEqual}
-use Rattle.rules.specs.declared.calls.Call.TheVariants.{Read, Scrub, Mark}
+use Rattle.rules.specs.declared.calls.Call.TheVariants.{Read}
 use Rattle.rules.proofs.Chain.{step_by_puts, shown_small}
 use Rattle.rules.proofs.Laying.{along_nothing}
 use Rattle.board.specs.Marks.{listed}
-use Rattle.board.specs.State.{state, Did, MarksOf, PutsOf}
+use Rattle.board.specs.State.{state, MarksOf, PutsOf}
 use Rattle.board.specs.declared.board.Board.{Board}
 
 -- a call's step, from its answer, its puts and its marks

@@ -1,10 +1,9 @@
 -- The main theorem, for boards whose calls were traced.
-use Rattle.std.proofs.Common.{◌≡◌, ℕ, ◌*◌, ◌<◌, Bool, T, List, Some, sym, refl, ap, ◌∙◌}
+use Rattle.std.proofs.Common.{◌≡◌, ℕ, ◌*◌, ◌<◌, Bool, T, List, Some, sym, ap, ◌∙◌}
 use Rattle.stack.specs.declared.memory.Stack.{Ghosts}
-use Rattle.rules.specs.Rules.{State, answer}
+use Rattle.rules.specs.Rules.{State}
 use Rattle.rules.specs.History.{Event, History, fresh, next, ledger}
 use Rattle.rules.specs.Theorem.{ReadsBack, SameLines, line_handed}
-use Rattle.rules.specs.declared.calls.Call.TheVariants.{Read}
 use Rattle.rules.proofs.Main.{main, ruled}
 use Rattle.board.specs.State.{state}
 use Rattle.board.specs.declared.board.Board.{Board}

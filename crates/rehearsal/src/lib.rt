@@ -1,4 +1,6 @@
 // Lists of calls rehearsed on two boards, and the two compared.
+#![tactic(auto)]
+
 ghost use Rattle.rehearsal.specs.Theorem.{Rehearses};
 
 pub mod comparing;

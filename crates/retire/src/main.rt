@@ -1,4 +1,6 @@
 // Retires two failing banks of a board, one after the other, and shows that every line is kept.
+#![tactic(auto)]
+
 mod text;
 
 use anyhow::anyhow;

@@ -1,5 +1,5 @@
 -- The invariant: a board keeps what its ledger says.
-use Rattle.std.proofs.Common.{◌≡◌, ℕ, ◌*◌, ◌<◌, List}
+use Rattle.std.proofs.Common.{◌≡◌, ℕ, ◌<◌}
 use Rattle.rules.proofs.Geometry.{Valid}
 use Rattle.codec.specs.Code.{Symbols}
 use Rattle.rules.specs.History.{Ledger}

@@ -1,11 +1,11 @@
 -- The step of any call, with its chain of puts: refused, or accepted.
-use Rattle.std.proofs.Common.{◌≡◌, ℕ, zero, suc, ◌+◌, ◌-◌, ◌*◌, ◌/◌, ◌<◌, ◌≤◌, Bool, true, false, cond, eqb, ltb, List, [], ◌∷◌, ◌++◌, map, length, get_or, Some, None, Option, sym, refl, ap, ◌∙◌, subst, zero-add, add-one, arith}
+use Rattle.std.proofs.Common.{◌≡◌, ℕ, zero, suc, ◌+◌, ◌-◌, ◌*◌, ◌<◌, ◌≤◌, true, false, List, [], ◌∷◌, ◌++◌, map, length, get_or, Some, None, Option, sym, refl, ap, ◌∙◌, subst, zero-add, add-one, arith}
 use lib.Bits.{bit_xor}
 use Rattle.std.specs.List.{range_with_len}
 use Rattle.std.proofs.lemmas.List.{append-nil, append_assoc}
 use Rattle.rules.proofs.Image.{zero_byte}
 use Rattle.std.proofs.lemmas.Bool.{cond-true, cond-false, lt-ltb, le-ltb, eq-eqb, ne_eqb}
-use Rattle.rules.proofs.Laying.{along_one, along_here, lay, lay_in}
+use Rattle.rules.proofs.Laying.{along_one, along_here, lay_in}
 use Rattle.rules.proofs.Chain.{shown_small, step_by_puts}
 use Rattle.codec.specs.Code.{zero_line}
 use Rattle.codec.specs.declared.word.Finding.{Finding}

@@ -1,16 +1,14 @@
 -- A history with damage that is repaired: bank 5 fails and is retired, then bank 9.
-use Rattle.std.proofs.Common.{◌≡◌, ℕ, ◌+◌, ◌*◌, ◌/◌, ◌%◌, ◌<◌, ◌≤◌, Bool, true, false, cond, ◌||◌, eqb, ◌⊎◌, List, [], ◌∷◌, ◌++◌, length, get_or, Some, None, Option, sym, refl, ap, ◌∙◌, subst, ap₂, inl, inr, arith}
+use Rattle.std.proofs.Common.{◌≡◌, ℕ, ◌+◌, ◌*◌, ◌/◌, ◌%◌, ◌<◌, ◌≤◌, Bool, true, false, cond, ◌||◌, eqb, ◌⊎◌, List, [], ◌∷◌, ◌++◌, get_or, None, sym, refl, ap, ◌∙◌, ap₂, inl, inr, arith}
 use Rattle.std.proofs.lemmas.Bool.{cases_Bool, cond-true, cond-false, false≢true, true≢false, ne_eqb, eqb-true, or_from}
 use Rattle.codec.proofs.DecodingLaws.{distance_none}
-use Rattle.rules.proofs.Agree.{Agrees}
 use Rattle.rules.proofs.Chain.{pass_step}
 use Rattle.rules.proofs.Gathering.{parity_real}
-use Rattle.rules.proofs.Geometry.{Valid, use_line_bank, use_high, group_fits, groups, groups_two}
+use Rattle.rules.proofs.Geometry.{Valid, use_line_bank, use_high}
 use Rattle.rules.proofs.Image.{image_zero}
 use Rattle.rules.proofs.Main.{agrees, ruled_call}
 use Rattle.rules.proofs.Rows.{distance_more}
 use Rattle.rules.proofs.Stepping.{after_call, step_after}
-use Rattle.codec.specs.Check.{check}
 use Rattle.codec.specs.Code.{zero_line}
 use Rattle.codec.specs.Word.{distance}
 use Rattle.rules.specs.History.{Event, History, Named, NoneNamed, Tolerable, enter, fresh, ledger, next, wrong, wrong_check, wrong_line}

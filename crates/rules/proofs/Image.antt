@@ -1,10 +1,10 @@
 -- The bytes of a bank follow the lines of its group, and only those.
-use Rattle.std.proofs.Common.{◌≡◌, ℕ, zero, suc, ◌+◌, ◌-◌, ◌*◌, ◌/◌, ◌%◌, ◌<◌, ◌≤◌, Bool, true, false, cond, ◌&&◌, eqb, ltb, leb, ◌⊎◌, List, [], ◌∷◌, ◌++◌, length, get_or, take, drop, replicate, Some, None, Option, sym, refl, ap, ◌∙◌, ap₂, inl, inr, arith}
+use Rattle.std.proofs.Common.{◌≡◌, ℕ, ◌+◌, ◌-◌, ◌*◌, ◌/◌, ◌%◌, ◌<◌, true, false, cond, eqb, List, [], ◌∷◌, length, get_or, take, drop, replicate, sym, refl, ap, ◌∙◌, ap₂, inl, inr, arith}
 use lib.Bits.{bit_xor, xor_zero_l}
 use Rattle.std.proofs.lemmas.Bool.{cases_eq, cases_lt, eq-eqb, ne_eqb, eqb-true, cond-true, cond-false, true≢false, false≢true}
 use Rattle.std.proofs.lemmas.List.{get_or-replicate, get_or-take, get_or-drop, length-take, length-drop, get_or_past}
-use Rattle.rules.proofs.Xor.{Each, each_map, xor_cong}
-use Rattle.rules.proofs.Geometry.{Valid, groups, Real, Member, each_member}
+use Rattle.rules.proofs.Xor.{each_map, xor_cong}
+use Rattle.rules.proofs.Geometry.{Real, Member, each_member}
 use Rattle.rules.proofs.Laying.{lay, lay_in, lay_out}
 use Rattle.codec.proofs.CodeLaws.{laws}
 use Rattle.codec.specs.Check.{check}

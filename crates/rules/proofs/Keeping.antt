@@ -1,17 +1,16 @@
 -- Every call keeps the board in step with its ledger.
-use Rattle.std.proofs.Common.{◌≡◌, ℕ, zero, suc, ◌+◌, ◌-◌, ◌*◌, ◌/◌, ◌%◌, ◌<◌, ◌≤◌, Bool, true, false, cond, not, ◌&&◌, ◌||◌, eqb, ltb, leb, ◌⊎◌, List, [], ◌∷◌, ◌++◌, map, length, get_or, take, drop, replicate, Some, None, Option, sym, refl, ap, ◌∙◌, subst, ap₂, inl, inr, arith}
-use lib.Bits.{bit_xor, xor_comm, xor_assoc, xor_self, xor_zero_l, xor_zero_r}
+use Rattle.std.proofs.Common.{◌≡◌, ℕ, ◌+◌, ◌-◌, ◌*◌, ◌<◌, ◌≤◌, Bool, true, false, cond, not, eqb, ltb, List, [], ◌∷◌, ◌++◌, map, length, get_or, Some, None, Option, sym, refl, ap, ◌∙◌, subst, ap₂, inl, inr, arith}
+use lib.Bits.{bit_xor, xor_comm, xor_assoc, xor_self, xor_zero_r}
 use Rattle.std.specs.List.{range_with_len}
-use Rattle.std.proofs.lemmas.Bool.{cases_eq, cases_lt, cases_Bool, eq-eqb, ne_eqb, eqb-true, eqb-false, ltb-true, cond-true, cond-false, cond_both, true≢false, false≢true, and_from, and_left, and_right, and_parts, not-true}
-use Rattle.std.proofs.lemmas.List.{get_or-replicate, length-replicate, get_or_past}
+use Rattle.std.proofs.lemmas.Bool.{cases_eq, cases_lt, cases_Bool, eq-eqb, ne_eqb, eqb-true, ltb-true, cond-true, cond-false, cond_both, false≢true, and_from, and_left, and_right, not-true}
 use Rattle.std.proofs.lemmas.List.FromFn.{length-map-range_with_len, get_or-map-range_with_len}
 use Rattle.rules.proofs.Xor.{Each, each_map, each_without, each_addresses, xor_cong}
-use Rattle.rules.proofs.Geometry.{Valid, groups, Real, role_sound, Member, each_member, group_split, group_fits}
+use Rattle.rules.proofs.Geometry.{Valid, Real, role_sound, Member, each_member, group_split, group_fits}
 use Rattle.rules.proofs.Agree.{Agrees}
-use Rattle.rules.proofs.Reading.{parity_at, decoded_near, decoded_far, partners_sum, rebuilding_right, reading_right, Seen, others}
-use Rattle.rules.proofs.Laying.{after_none, along_here, lay, lay_in, lay_out}
+use Rattle.rules.proofs.Reading.{parity_at, decoded_near, decoded_far, partners_sum, rebuilding_right, reading_right, Seen}
+use Rattle.rules.proofs.Laying.{after_none, along_here, lay, lay_in}
 use Rattle.rules.proofs.Marking.{mark_valid, mark_use, mark_image}
-use Rattle.rules.proofs.Image.{image_cong, image_zero, zero_byte, stored_image, Touches, outside_of, inside_of}
+use Rattle.rules.proofs.Image.{image_cong, image_zero, zero_byte, stored_image, outside_of, inside_of}
 use Rattle.codec.proofs.CodeLaws.{laws}
 use Rattle.codec.specs.Code.{Symbols, uncorrectable, zero_line}
 use Rattle.codec.specs.declared.word.Finding.{Finding}

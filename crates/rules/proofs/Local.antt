@@ -1,11 +1,10 @@
 -- What is read at an index depends on what is shown at that index alone. (A mark reads an index after it has put others.)
-use Rattle.std.proofs.Common.{◌≡◌, ℕ, ◌+◌, ◌-◌, ◌*◌, ◌/◌, ◌%◌, ◌<◌, ◌≤◌, Bool, true, false, List, [], ◌∷◌, ◌++◌, map, length, get_or, Some, None, Option, sym, refl, ap, ◌∙◌, subst, ap₂, arith}
+use Rattle.std.proofs.Common.{◌≡◌, ℕ, ◌+◌, ◌*◌, ◌/◌, ◌%◌, ◌<◌, Bool, true, false, List, [], ◌∷◌, ◌++◌, get_or, Some, None, Option, sym, refl, ap, ◌∙◌, ap₂, arith}
 use lib.Bits.{bit_xor}
-use Rattle.std.specs.List.{range_with_len}
 use Rattle.std.proofs.lemmas.List.{ext_get_or}
 use Rattle.std.proofs.lemmas.List.FromFn.{length-map-range_with_len, get_or-map-range_with_len}
 use Rattle.rules.proofs.Xor.{Each, each_map, each_without, each_addresses, xor_cong}
-use Rattle.rules.proofs.Geometry.{line_bank_real, Member, each_member, group_fits, groups, groups_two}
+use Rattle.rules.proofs.Geometry.{line_bank_real, Member, each_member, group_fits, groups_two}
 use Rattle.codec.specs.Code.{Decoded, decoding, found, judging, uncorrectable}
 use Rattle.rules.specs.Boards.{board}
 use Rattle.rules.specs.Places.{bank_of, check_in, group_of, index_of, line_bank, members, parity_bank, second_in, short, without}

@@ -1,9 +1,9 @@
 -- The main theorem.
-use Rattle.std.proofs.Common.{◌≡◌, ℕ, zero, suc, ◌+◌, ◌-◌, ◌*◌, ◌/◌, ◌%◌, ◌<◌, ◌≤◌, Bool, true, false, cond, not, eqb, ltb, leb, ◌⊎◌, List, [], ◌∷◌, ◌++◌, length, Some, None, Option, sym, refl, ap, ◌∙◌, subst, ap₂, inl, inr, arith}
+use Rattle.std.proofs.Common.{◌≡◌, ℕ, ◌+◌, ◌*◌, ◌<◌, ◌≤◌, Bool, true, false, ltb, leb, List, [], ◌∷◌, Some, None, Option, sym, refl, ap, ◌∙◌, subst, inl, inr, arith}
 use Rattle.std.specs.List.{range_with_len}
-use Rattle.std.proofs.lemmas.Bool.{cases_lt, cases_Bool, lt-ltb, ltb-true, le-leb, lt-leb, cond-true, cond-false}
+use Rattle.std.proofs.lemmas.Bool.{cases_lt, lt-ltb, ltb-true, le-leb, lt-leb, cond-true, cond-false}
 use Rattle.rules.proofs.Xor.{Each, each_map, each_counting, each_addresses}
-use Rattle.rules.proofs.Geometry.{Real, role_sound, Member, each_member, group_fits}
+use Rattle.rules.proofs.Geometry.{role_sound, Member, each_member, group_fits}
 use Rattle.rules.proofs.Agree.{Agrees}
 use Rattle.rules.proofs.Reading.{decoded_near, decoded_far, reading_right}
 use Rattle.rules.proofs.Image.{image_cong}

@@ -1,6 +1,6 @@
 -- What a mark leaves as it is.
-use Rattle.std.proofs.Common.{◌≡◌, ℕ, suc, ◌+◌, ◌-◌, ◌<◌, ◌≤◌, Bool, true, false, cond, not, ◌||◌, eqb, ltb, ◌⊎◌, List, [], ◌∷◌, ◌++◌, length, sym, refl, ap, ◌∙◌, inl, inr, arith}
-use Rattle.std.proofs.lemmas.Bool.{ne_eqb, eqb-false, ltb-true, ltb-false, cond-true, cond-false, cond_both, or_parts}
+use Rattle.std.proofs.Common.{◌≡◌, ℕ, ◌-◌, ◌<◌, false, eqb, ltb, List, [], ◌∷◌, ◌++◌, length, sym, refl, ap, ◌∙◌, arith}
+use Rattle.std.proofs.lemmas.Bool.{ne_eqb, eqb-false, ltb-false, cond-false, cond_both, or_parts}
 use Rattle.rules.proofs.Geometry.{Valid}
 use Rattle.rules.specs.Places.{InUse, image, image_by, role}
 use Rattle.rules.specs.Rules.{among, filled}

@@ -1,12 +1,11 @@
 -- Reads of a board that keeps what its ledger says, under tolerable damage.
-use Rattle.std.proofs.Common.{◌≡◌, ℕ, zero, suc, ◌+◌, ◌-◌, ◌*◌, ◌/◌, ◌%◌, ◌<◌, ◌≤◌, Bool, true, false, cond, eqb, ltb, ◌⊎◌, List, [], ◌∷◌, ◌++◌, map, length, get_or, take, Some, None, Option, sym, refl, ap, ◌∙◌, subst, ap₂, inl, inr, arith}
-use lib.Bits.{bit_xor, xor_comm, xor_assoc, xor_self, xor_zero_l, xor_zero_r}
-use Rattle.std.specs.List.{range_with_len}
-use Rattle.std.proofs.lemmas.Bool.{cases_eq, cases_lt, eq-eqb, ne_eqb, cond-true, cond-false}
+use Rattle.std.proofs.Common.{◌≡◌, ℕ, ◌+◌, ◌-◌, ◌*◌, ◌/◌, ◌%◌, ◌<◌, ◌≤◌, Bool, true, false, ◌⊎◌, List, [], ◌∷◌, ◌++◌, length, get_or, take, None, sym, refl, ap, ◌∙◌, subst, ap₂, inl, inr, arith}
+use lib.Bits.{bit_xor, xor_assoc, xor_self, xor_zero_r}
+use Rattle.std.proofs.lemmas.Bool.{cases_lt}
 use Rattle.std.proofs.lemmas.List.{ext_get_or, length-append, get_or_append_left, get_or-append_right, get_or_past, get_or-take, length-take}
 use Rattle.std.proofs.lemmas.List.FromFn.{length-map-range_with_len, get_or-map-range_with_len}
-use Rattle.rules.proofs.Xor.{Each, each_map, each_without, each_addresses, xor_cong, xor_addresses, xor_twice}
-use Rattle.rules.proofs.Geometry.{Valid, groups, role_line_bank, role_first, role_second, role_fifth, role_parity, use_line_bank, use_high, group_fits, groups_two, Member, each_member, group_split}
+use Rattle.rules.proofs.Xor.{Each, each_map, each_without, each_addresses, xor_cong, xor_addresses}
+use Rattle.rules.proofs.Geometry.{groups, role_line_bank, role_first, role_second, role_fifth, role_parity, use_line_bank, use_high, group_fits, groups_two, Member, each_member, group_split}
 use Rattle.rules.proofs.Agree.{Agrees}
 use Rattle.codec.proofs.CodeLaws.{laws}
 use Rattle.codec.specs.Check.{check}
@@ -15,7 +14,7 @@ use Rattle.codec.specs.Word.{distance}
 use Rattle.codec.specs.declared.word.Finding.{Finding}
 use Rattle.rules.specs.History.{Grouped, Ledger, Tolerable, wrong, wrong_check}
 use Rattle.rules.specs.Places.{bank_of, check_in, group_of, image_by, index_of, line_bank, line_in, members, parity_bank, second_in, short, without, xor_over}
-use Rattle.rules.specs.Rules.{State, decoded, group, judged_or, line_decoded, lowest, obtained, partners, partners_byte, reading, rebuilding, step_rebuilding, sum_line}
+use Rattle.rules.specs.Rules.{State, decoded, judged_or, line_decoded, lowest, obtained, partners, partners_byte, reading, rebuilding, step_rebuilding, sum_line}
 use Rattle.stack.proofs.PieceLaws.{getD_cells, length_cells}
 use Rattle.stack.specs.Memory.{Contents, cells}
 

@@ -1,8 +1,8 @@
 -- The rows that the code builds from lines in a work buffer.
-use Rattle.std.proofs.Common.{◌≡◌, ℕ, zero, suc, ◌+◌, ◌-◌, ◌*◌, ◌/◌, ◌%◌, ◌<◌, ◌≤◌, Bool, true, false, cond, ◌&&◌, eqb, ltb, ◌⊎◌, List, [], ◌∷◌, ◌++◌, map, length, get_or, take, drop, replicate, Some, None, Option, sym, refl, ap, ◌∙◌, subst, ap₂, inl, inr, mul-le-mul_right, add-mul, one-mul, zero-add, add-one-le, one-add, arith}
-use lib.Bits.{bit_xor, xor_zero_r, xor_assoc}
+use Rattle.std.proofs.Common.{◌≡◌, ℕ, zero, suc, ◌+◌, ◌-◌, ◌*◌, ◌/◌, ◌%◌, ◌<◌, ◌≤◌, false, cond, eqb, ◌⊎◌, List, [], ◌∷◌, ◌++◌, map, length, get_or, take, drop, Some, None, Option, sym, refl, ap, ◌∙◌, ap₂, inl, inr, mul-le-mul_right, add-mul, one-mul, zero-add, add-one-le, one-add, arith}
+use lib.Bits.{bit_xor, xor_zero_r}
 use Rattle.std.specs.List.{range_with_len}
-use Rattle.std.proofs.lemmas.Bool.{cases_Bool, cases_eq, cases_lt, cond_both, ltb-true, ltb-false, eqb-false, eq-eqb, ne_eqb, cond-true, cond-false, or_from, or_parts}
+use Rattle.std.proofs.lemmas.Bool.{cases_eq, cases_lt, eq-eqb, ne_eqb, or_from, or_parts}
 use Rattle.rules.proofs.Laying.{elsewhere}
 use Rattle.codec.proofs.Distance.{distance_same, distance_differ}
 use Rattle.codec.proofs.DecodingLaws.{distance_none}

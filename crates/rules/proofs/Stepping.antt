@@ -1,5 +1,5 @@
 -- Steps: what a call answers is determined, and every call has one.
-use Rattle.std.proofs.Common.{◌≡◌, ℕ, ◌<◌, sym, refl, ◌∙◌}
+use Rattle.std.proofs.Common.{ℕ, ◌<◌, sym, refl, ◌∙◌}
 use Rattle.rules.specs.History.{Given, Step, marks_after}
 use Rattle.rules.specs.Rules.{HostCall, State, answer, puts}
 use Rattle.rules.specs.Theorem.{AlwaysAStep, UniqueAnswers}

@@ -1,5 +1,5 @@
 -- Pieces put in bank after bank.
-use Rattle.std.proofs.Common.{◌≡◌, ℕ, zero, suc, ◌+◌, ◌-◌, ◌<◌, ◌≤◌, ◌⊎◌, List, [], ◌∷◌, ◌++◌, length, Some, None, Ok, Err, Option, Result, sym, refl, ap, ◌∙◌, subst, inl, inr, append_assoc, append-nil, zero-add, add-one, arith, MatchResult}
+use Rattle.std.proofs.Common.{◌≡◌, ℕ, zero, suc, ◌+◌, ◌-◌, ◌<◌, ◌≤◌, List, [], ◌++◌, None, Option, sym, ap, ◌∙◌, subst, append_assoc, append-nil, zero-add, add-one, arith}
 use Rattle.std.specs.List.{range_with_len}
 use Rattle.rules.proofs.Laying.{along_banks_more}
 use Rattle.rules.specs.Rules.{Part, along_banks, part, piece_at}

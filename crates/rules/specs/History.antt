@@ -1,10 +1,9 @@
 -- One call of a board, whole lists of them, and the ledger that a host would keep of them.
-use Rattle.std.specs.Prelude.{◌≡◌, ℕ, ◌+◌, ◌*◌, ◌/◌, ◌%◌, ◌<◌, ◌≤◌, Bool, true, false, cond, ◌&&◌, ◌⊎◌, List, [], ◌∷◌, ◌++◌, length, ◌==◌, slice_index}
-use Rattle.codec.specs.Check.{check}
+use Rattle.std.specs.Prelude.{◌≡◌, ℕ, ◌+◌, ◌*◌, ◌<◌, ◌≤◌, Bool, false, cond, ◌&&◌, ◌⊎◌, List, [], ◌∷◌, ◌++◌, ◌==◌, slice_index}
 use Rattle.codec.specs.Code.{zero_line}
 use Rattle.codec.specs.Word.{distance}
 use Rattle.rules.specs.Places.{bank_of, check_in, group_of, index_of, line_in, parity_bank}
-use Rattle.rules.specs.Rules.{HostCall, State, accepted, answer, group, puts}
+use Rattle.rules.specs.Rules.{HostCall, State, accepted, answer, puts}
 use Rattle.rules.specs.declared.calls.Answer.{Answer}
 use Rattle.rules.specs.declared.calls.Call.TheVariants.{Clear, Mark, Pass, Read, Renew, Scrub, Settle, Write}
 use Rattle.stack.specs.Memory.{Place}

@@ -1,6 +1,6 @@
 -- Where the lines, their checks and the parity lines lie, and what every bank then holds.
 -- `marks` has the marked banks in the order in which they were marked; its length is the stage.
-use Rattle.std.specs.Prelude.{◌≡◌, ℕ, ◌+◌, ◌-◌, ◌*◌, ◌/◌, ◌%◌, ◌<◌, ◌≤◌, Bool, true, false, cond, List, [], ◌∷◌, ◌++◌, map, length, ◌==◌, ◌≢◌, bit_xor, nat_lt, slice_index}
+use Rattle.std.specs.Prelude.{ℕ, ◌+◌, ◌-◌, ◌*◌, ◌/◌, ◌%◌, ◌<◌, Bool, true, false, cond, List, [], ◌∷◌, ◌++◌, ◌==◌, ◌≢◌, bit_xor, nat_lt, slice_index}
 use Rattle.std.specs.List.{range_with_len}
 use Rattle.codec.specs.Check.{check}
 use Rattle.rules.specs.declared.roles.Role.{Role}

@@ -1,5 +1,5 @@
 -- The main theorem on boards.
-use Rattle.std.specs.Prelude.{◌≡◌, ℕ, ◌*◌, ◌<◌, ◌≤◌, Bool, true, false, cond, List, [], ◌∷◌, Some, None, Option, nat_le}
+use Rattle.std.specs.Prelude.{◌≡◌, ℕ, ◌*◌, ◌<◌, cond, List, [], ◌∷◌, Some, None, Option, nat_le}
 use Rattle.codec.specs.declared.word.Finding.{Finding}
 use Rattle.rules.specs.History.{Event, Given, History, NoneNamed, Step, Tolerable, fresh, ledger, next, wrong}
 use Rattle.rules.specs.Places.{InUse}

@@ -1,5 +1,5 @@
 -- What the code of the calls puts and loads, in words of its own.
-use Rattle.std.specs.Prelude.{◌≡◌, ℕ, ◌+◌, ◌*◌, ◌<◌, ◌≤◌, Bool, true, false, cond, not, List, [], ◌∷◌, ◌++◌, map, length, take, drop, replicate, Some, None, Option, Result, MatchResult, bit_xor, nat_lt, slice_index}
+use Rattle.std.specs.Prelude.{◌≡◌, ℕ, ◌+◌, ◌*◌, ◌<◌, ◌≤◌, not, List, [], ◌∷◌, ◌++◌, map, length, take, drop, replicate, Some, None, Option, Result, MatchResult, bit_xor, nat_lt, slice_index}
 use Rattle.std.specs.List.{range_with_len}
 use Rattle.codec.specs.Code.{zero_line}
 use Rattle.rules.specs.Places.{bank_of, group_of, role}

@@ -1,4 +1,6 @@
 // The rules of a board as definitions, what follows from them, and the calls and answers in which they are told.
+#![tactic(auto)]
+
 ghost use Rattle.rules.specs.Rules.{State};
 ghost use Rattle.rules.specs.Theorem.{Theorem, UniqueAnswers, AlwaysAStep, Repaired};
 

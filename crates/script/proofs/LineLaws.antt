@@ -1,5 +1,5 @@
 -- A refused line changes nothing, and later lines only add rows.
-use Rattle.std.proofs.Common.{◌≡◌, ℕ, ◌+◌, Bool, true, false, cond, List, [], ◌∷◌, ◌++◌, is_some, Some, None, Option, sym, refl, ap, ◌∙◌, append_assoc}
+use Rattle.std.proofs.Common.{◌≡◌, ℕ, ◌+◌, true, false, cond, List, [], ◌∷◌, ◌++◌, is_some, Some, None, Option, sym, refl, ap, ◌∙◌, append_assoc}
 use Rattle.std.specs.List.{range_with_len}
 use Rattle.layers.specs.declared.fault.Fault.{Fault}
 use borrow.Author.Tests.{clash}
@@ -9,9 +9,8 @@ use Rattle.rules.specs.declared.calls.Answer.TheVariants.{Cleared, Done, HandedO
 use Rattle.rules.specs.declared.calls.Call.TheVariants.{Clear, Mark, Pass, Read, Renew, Scrub, Settle, Write}
 use Rattle.language.specs.Commands.{command_in, letter_of_call}
 use Rattle.language.specs.Rows.{call_reply, fault_reply, row}
-use Rattle.language.specs.declared.command.Command.{Command}
 use Rattle.language.specs.declared.command.Command.TheVariants.{Inject, Do}
-use Rattle.script.specs.Piles.{Pile, in_turn, put, struck_by, with_fault}
+use Rattle.script.specs.Piles.{in_turn, put, struck_by, with_fault}
 use Rattle.script.specs.Machines.{Machine, after_call, filled, formatted, machine, view}
 use Rattle.script.specs.Scripts.{LaterLinesOnlyAdd, RefusedChangesNothing, answered, either, fault_spelled, leading_rows, line_after, line_reply, rows}
 

@@ -1,5 +1,5 @@
 -- The promises of the board's calls determine the machine.
-use Rattle.std.proofs.Common.{◌≡◌, ℕ, List, [], sym, refl, ap, ◌∙◌, subst}
+use Rattle.std.proofs.Common.{◌≡◌, ℕ, List, [], ap, ◌∙◌}
 use Rattle.std.specs.List.{range_with_len}
 use Rattle.stack.specs.declared.flat.bytes.ByteMemory.{ByteMemory}
 use Rattle.layers.specs.declared.buffer.WriteBuffer.{WriteBuffer}
@@ -7,15 +7,14 @@ use Rattle.layers.specs.declared.injector.FaultInjector.{FaultInjector}
 use Rattle.layers.specs.Tables.{lines_in}
 use Rattle.board.specs.Marks.{listed}
 use Rattle.rules.specs.Rules.{HostCall, along, answer, puts}
-use Rattle.rules.specs.History.{marks_after}
 use Rattle.rules.specs.Work.{formatting}
 use Rattle.rules.specs.declared.calls.Answer.{Answer}
 use Rattle.rules.specs.declared.calls.Call.TheVariants.{Clear, Mark, Pass, Read, Renew, Scrub, Settle, Write}
 use Rattle.board.specs.State.{FormatRun}
 use Rattle.board.specs.declared.board.Board.{Board}
 use Rattle.rehearsal.specs.Traces.{Called, Exactly}
-use Rattle.script.specs.Piles.{Pile, bare_pile_of, in_turn, pile_of, put, settled, size}
-use Rattle.script.specs.Machines.{Machine, after_call, formatted, machine, machine_of, pile_after, view}
+use Rattle.script.specs.Piles.{Pile, bare_pile_of, pile_of, settled, size}
+use Rattle.script.specs.Machines.{after_call, formatted, machine, machine_of, pile_after, view}
 use Rattle.script.proofs.PileLaws.{one_pass, one_settle, pile_ghosts, run_of_puts, unbuffered}
 
 pile_called : (b t : Board (WriteBuffer (FaultInjector ByteMemory))) (c : HostCall)

@@ -1,11 +1,11 @@
 -- The exact relations of the layers determine the pile.
-use Rattle.std.proofs.Common.{◌≡◌, ℕ, List, [], ◌∷◌, ◌++◌, map, length, replicate, Some, None, Ok, Err, vec_items, Option, Result, sym, refl, ap, ◌∙◌, MatchOption}
+use Rattle.std.proofs.Common.{◌≡◌, ℕ, List, [], ◌∷◌, ◌++◌, replicate, Some, None, Ok, Err, vec_items, Option, Result, refl, ap, ◌∙◌, MatchOption}
 use Rattle.std.specs.Result as results
 use Rattle.stack.specs.declared.refusal.Refusal.{Refusal}
-use Rattle.stack.specs.Flat.{flat_sound, size_of}
+use Rattle.stack.specs.Flat.{flat_sound}
 use Rattle.stack.specs.Memories.{BytesStored, byte_means}
-use Rattle.stack.specs.Memory.{Meaning, Piece}
-use Rattle.stack.specs.Pieces.{Accepted, InOrder, Puts, Rested, done, more}
+use Rattle.stack.specs.Memory.{Piece}
+use Rattle.stack.specs.Pieces.{Accepted, InOrder, done, more}
 use Rattle.stack.specs.declared.flat.bytes.ByteMemory.{ByteMemory}
 use Rattle.stack.specs.declared.memory.Stack.{Ghosts}
 use Rattle.layers.specs.Exact.{BufferPasses, BufferPuts, BufferSettles, InjectorPasses, InjectorPuts, InjectorSettles}
@@ -16,7 +16,7 @@ use Rattle.layers.specs.declared.fault.Fault.{Fault}
 use Rattle.layers.specs.declared.line.BufferedLine.{BufferedLine}
 use Rattle.layers.specs.declared.buffer.WriteBuffer.{WriteBuffer}
 use Rattle.layers.specs.declared.injector.FaultInjector.{FaultInjector}
-use Rattle.script.specs.Piles.{Pile, added, bare_pile_of, blank, emptied, in_turn, meaning, passed, pile, pile_of, put, put_below, put_or_buffer, settled, size, struck_by, with_fault}
+use Rattle.script.specs.Piles.{Pile, added, bare_pile_of, blank, emptied, in_turn, passed, pile, pile_of, put, put_below, put_or_buffer, settled, size, struck_by, with_fault}
 
 -- what the three layers say of themselves
 abbrev pub bytes_ghosts : Ghosts ByteMemory

@@ -1,5 +1,5 @@
 -- Rows line by line.
-use Rattle.std.proofs.Common.{◌≡◌, ℕ, suc, ◌+◌, ◌<◌, ◌≤◌, true, false, List, [], ◌∷◌, ◌++◌, length, Some, None, Option, sym, refl, ap, ◌∙◌, append_assoc, append-nil, le-ltb, lt-ltb}
+use Rattle.std.proofs.Common.{◌≡◌, ℕ, suc, ◌+◌, ◌<◌, ◌≤◌, List, [], ◌∷◌, ◌++◌, length, Some, None, Option, sym, refl, ap, ◌∙◌, append_assoc, append-nil, le-ltb, lt-ltb}
 use Rattle.layers.specs.declared.fault.Fault.{Fault}
 use Rattle.language.specs.Parts.{lines}
 use Rattle.language.specs.Commands.{command_in}

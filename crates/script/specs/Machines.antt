@@ -1,5 +1,5 @@
 -- A board over a pile, as a value that every call determines.
-use Rattle.std.specs.Prelude.{ℕ, List, [], ◌∷◌, replicate}
+use Rattle.std.specs.Prelude.{ℕ, List, [], replicate}
 use Rattle.std.specs.List.{range_with_len}
 use Rattle.stack.specs.declared.flat.bytes.ByteMemory.{ByteMemory}
 use Rattle.layers.specs.declared.buffer.WriteBuffer.{WriteBuffer}

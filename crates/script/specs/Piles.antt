@@ -1,6 +1,5 @@
 -- A write buffer over a fault injector over a memory in bytes, as a value that every put, settle and pass determines.
 use Rattle.std.specs.Prelude.{ℕ, List, [], ◌∷◌, ◌++◌, map, length, replicate, Some, None, Ok, Err, vec_items, Option, Result}
-use Rattle.std.specs.List.{range_with_len}
 use Rattle.stack.specs.Flat.{flat_means, size_of, written}
 use Rattle.stack.specs.Memory.{Meaning, Piece}
 use Rattle.stack.specs.declared.flat.bytes.ByteMemory.{ByteMemory}

@@ -1,5 +1,5 @@
 -- The output of a script.
-use Rattle.std.specs.Prelude.{◌≡◌, ℕ, ◌+◌, ◌≤◌, Bool, true, false, cond, List, [], ◌∷◌, ◌++◌, length, is_some, Some, None, Option, nat_lt}
+use Rattle.std.specs.Prelude.{◌≡◌, ℕ, ◌+◌, ◌≤◌, true, cond, List, [], ◌∷◌, ◌++◌, length, is_some, Some, None, Option, nat_lt}
 use Rattle.layers.specs.declared.fault.Fault.{Fault}
 use Rattle.rules.specs.Rules.{answer}
 use Rattle.rules.specs.declared.calls.Answer.{Answer}

@@ -1,4 +1,6 @@
 // Runs scripts on a board over a write buffer, over a fault injector, over a memory in bytes.
+#![tactic(auto)]
+
 ghost use Rattle.std.specs.Prelude.{◌≡◌, ◌+◌, ◌≤◌, length, IfOk, OnOk};
 ghost use Rattle.script.specs.Piles.{bare_pile_of};
 ghost use Rattle.script.specs.Machines.{machine_of};

@@ -1,4 +1,6 @@
 // Runs scripts whose whole output is known, and compares it byte for byte.
+#![tactic(auto)]
+
 use script::run;
 use std::alloc::AllocError;
 use std::{env, fs};

@@ -1,4 +1,6 @@
 // What a memory of banks, indexes and bytes means, and two memories that show what they keep.
+#![tactic(auto)]
+
 pub mod flat;
 pub mod located;
 pub mod memory;

@@ -1,5 +1,7 @@
 // A further stack, of the least reliable make that the meaning of a memory allows: it shows arbitrary bytes
 // wherever what is shown is free.
+#![tactic(auto)]
+
 ghost use Rattle.std.specs.Prelude.{◌≡◌, false, length};
 ghost use Rattle.stack.specs.Memory.{Put, outside, piece};
 ghost use Rattle.unsteady.specs.Noise.{meaning, noisy, noisy_sound};

@@ -1,6 +1,6 @@
-use Rattle.std.proofs.Common.{◌≡◌, ◌<◌, ◌≤◌, length, vec_items, ap, ◌∙◌, arith}
+use Rattle.std.proofs.Common.{◌<◌, ◌≤◌, length, vec_items, ap, ◌∙◌, arith}
 use Rattle.std.proofs.lemmas.Result.{err_from_is_err_and}
-use Rattle.script.specs.Piles.{bare_pile_of, blank}
+use Rattle.script.specs.Piles.{bare_pile_of}
 use Rattle.script.specs.Machines.{machine_of}
 use Rattle.script.proofs.PileLaws.{first_pile}
 use Rattle.script.proofs.MachineLaws.{board_formatted}

@@ -1,4 +1,4 @@
-use Rattle.std.proofs.Common.{◌≡◌, ℕ, true, false, List, [], ◌∷◌, ◌++◌, get_or, take, sym, refl, ap, ◌∙◌, subst}
+use Rattle.std.proofs.Common.{◌≡◌, ℕ, true, false, List, [], ◌∷◌, ◌++◌, get_or, take, sym, ap, ◌∙◌, subst}
 use Rattle.field.specs.Rows.{lane}
 use Rattle.codec.specs.Word.{Codeword}
 use Rattle.codec.specs.Check.{check}

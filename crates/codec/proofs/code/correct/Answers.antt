@@ -1,6 +1,5 @@
-use Rattle.std.proofs.Common.{◌≡◌, ℕ, List, ◌++◌, length, get_or, take, set, sym, ap, ◌∙◌, rules}
+use Rattle.std.proofs.Common.{◌≡◌, ℕ, List, length, get_or, take, set, sym, ap, ◌∙◌, rules}
 use lib.Bits.{bit_xor}
-use Rattle.codec.specs.Word.{corrected}
 use Rattle.codec.specs.Shown.{symbols, check_of}
 use Rattle.codec.proofs.CodeLaws.{line_before, take_corrected_inside, take_corrected_past}
 use Rattle.codec.proofs.code.correct.Goals as goal

@@ -1,4 +1,4 @@
-use Rattle.std.proofs.Common.{◌≡◌, ℕ, ◌<◌, List, length, get_or, take, sym, ap, ◌∙◌, rules}
+use Rattle.std.proofs.Common.{ℕ, ◌<◌, List, length, get_or, take, sym, ap, ◌∙◌, rules}
 use Rattle.codec.proofs.TestLaws.{codeword_test}
 use Rattle.codec.proofs.code.is_codeword.Goals as goal
 

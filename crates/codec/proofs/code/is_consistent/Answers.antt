@@ -1,4 +1,4 @@
-use Rattle.std.proofs.Common.{◌≡◌, ℕ, ◌<◌, List, get_or, take, sym, ap, ◌∙◌, rules}
+use Rattle.std.proofs.Common.{ℕ, ◌<◌, List, get_or, take, sym, ap, ◌∙◌, rules}
 use Rattle.codec.proofs.TestLaws.{consistent_test}
 use Rattle.codec.proofs.code.is_consistent.Goals as goal
 

@@ -1,4 +1,4 @@
-use Rattle.std.proofs.Common.{◌≡◌, ℕ, ◌≤◌, Bool, true, false, List, ◌++◌, length, take, Some, None, sym, refl, ap, ◌∙◌, arith, lit≤, rules}
+use Rattle.std.proofs.Common.{◌≡◌, ℕ, true, false, List, ◌++◌, length, Some, None, sym, ap, ◌∙◌, rules}
 use Rattle.codec.specs.declared.word.Finding.TheVariants.{Rebuilt, RebuiltCorrected}
 use Rattle.codec.specs.Code.{found, codeword}
 use Rattle.codec.specs.Shown.{symbols, check_of}

@@ -1,7 +1,7 @@
-use Rattle.std.proofs.Common.{◌≡◌, ℕ, zero, suc, ◌-◌, ◌<◌, ◌≤◌, List, length, get_or, Some, None, sym, ap, ◌∙◌, subst, arith, lit<, rules}
+use Rattle.std.proofs.Common.{◌≡◌, ℕ, ◌-◌, ◌<◌, List, length, get_or, Some, None, sym, ap, ◌∙◌, arith, lit<, rules}
 use Rattle.std.proofs.lemmas.Bool.{true≢false}
 use Rattle.field.specs.Field.{mul}
-use Rattle.codec.specs.Word.{Corrects, coeff, syndrome, sums}
+use Rattle.codec.specs.Word.{Corrects, coeff, syndrome}
 use Rattle.codec.proofs.WordLaws.{syndrome_lt, sums_at, corrects_from, corrects_to, value_low, value_last}
 use Rattle.codec.proofs.Sums.{bytes_from}
 use Rattle.codec.proofs.FinderLaws.{single_error_is}

@@ -1,4 +1,4 @@
-use Rattle.std.proofs.Common.{◌≡◌, ℕ, ◌+◌, ◌-◌, ◌%◌, ◌<◌, ◌≤◌, ◌≢◌, ◌⊎◌, get_or, sym, refl, ◌∙◌, inl, inr, arith, lit<}
+use Rattle.std.proofs.Common.{◌≡◌, ℕ, ◌+◌, ◌-◌, ◌<◌, ◌≤◌, ◌≢◌, ◌⊎◌, get_or, ◌∙◌, inl, inr, arith, lit<}
 use Rattle.field.specs.Field.{mul, pow}
 use Rattle.field.proofs.FieldLaws.{pow_nonzero}
 use Rattle.codec.specs.Word.{coeff}

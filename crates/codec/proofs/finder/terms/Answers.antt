@@ -1,4 +1,4 @@
-use Rattle.std.proofs.Common.{◌≡◌, ℕ, ◌<◌, ◌≤◌, get_or, sym, ap, ◌∙◌, arith}
+use Rattle.std.proofs.Common.{ℕ, ◌<◌, ◌≤◌, get_or, sym, ap, ◌∙◌, arith}
 use Rattle.field.specs.Field.{mul}
 use Rattle.codec.specs.Word.{coeff}
 use Rattle.codec.proofs.PlaceLaws.{term_68, term_69, term_past, term_low}

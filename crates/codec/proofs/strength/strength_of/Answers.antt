@@ -1,4 +1,4 @@
-use Rattle.std.proofs.Common.{◌≡◌, sym, subst, arith}
+use Rattle.std.proofs.Common.{sym, subst, arith}
 use Rattle.codec.specs.Laws.{Apart}
 use Rattle.codec.proofs.CodeLaws.{laws}
 use Rattle.codec.proofs.StrengthLaws.{apart_full, apart_short, consistent_apart, decodes_clean, decodes_corrected, judges_rebuilt, judges_corrected, corrected_within, uncorrectable_within, right_within, rebuilt_within}

@@ -1,4 +1,4 @@
-use Rattle.std.proofs.Common.{◌≡◌, ◌-◌, ◌≤◌}
+use Rattle.std.proofs.Common.{◌≡◌, ◌-◌}
 use Rattle.error_log.specs.Notes.{tally_of, highest}
 use Rattle.error_log.proofs.log.worst_in.Given as goal
 

@@ -1,4 +1,4 @@
-use Rattle.std.proofs.Common.{ℕ, ◌+◌, sym, ap, ◌∙◌, ⊎_elim}
+use Rattle.std.proofs.Common.{ℕ, sym, ap, ◌∙◌, ⊎_elim}
 use Rattle.field.specs.Field.{mul, pow}
 use Rattle.field.proofs.FieldLaws.{mul_zero_l, mul_zero_r, mul_pow}
 use Rattle.field.proofs.arithmetic.product.Goals as goal

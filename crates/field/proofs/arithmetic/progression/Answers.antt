@@ -1,4 +1,4 @@
-use Rattle.std.proofs.Common.{◌≡◌, ℕ, ◌+◌, ◌*◌, List, [], ◌∷◌, sym, ap, ◌∙◌, ap₂, arith}
+use Rattle.std.proofs.Common.{◌≡◌, ℕ, ◌+◌, ◌*◌, [], ◌∷◌, sym, ap, ◌∙◌, ap₂, arith}
 use Rattle.field.specs.Field.{mul, pow, raise, terms}
 use Rattle.field.proofs.FieldLaws.{mul_zero_l, mul_pow, raise_pow}
 use Rattle.field.proofs.arithmetic.progression.Goals as goal

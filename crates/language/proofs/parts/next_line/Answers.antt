@@ -1,5 +1,5 @@
-use Rattle.std.proofs.Common.{◌≡◌, ℕ, suc, ◌-◌, ◌<◌, List, [], ◌∷◌, length, drop, sym, ap, ◌∙◌, arith, length-drop, true-eqb, false-eqb}
-use Rattle.language.specs.Parts.{after_first, first_at, lines}
+use Rattle.std.proofs.Common.{suc, ◌<◌, length, ap, arith, length-drop, true-eqb, false-eqb}
+use Rattle.language.specs.Parts.{after_first, first_at}
 use Rattle.language.proofs.PartLaws.{lines_step, empty_list}
 use Rattle.language.proofs.parts.next_line.Goals as goal
 

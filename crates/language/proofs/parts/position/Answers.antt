@@ -1,4 +1,4 @@
-use Rattle.std.proofs.Common.{add-one, arith}
+use Rattle.std.proofs.Common.{arith}
 use Rattle.language.proofs.PartLaws.{first_hit, first_miss, first_end}
 use Rattle.language.proofs.parts.position.Goals as goal
 

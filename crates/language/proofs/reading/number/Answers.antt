@@ -1,4 +1,4 @@
-use Rattle.std.proofs.Common.{◌≡◌, ◌≤◌, length, get_or, sym, ◌∙◌, arith, false-eqb}
+use Rattle.std.proofs.Common.{◌≤◌, length, sym, ◌∙◌, arith, false-eqb}
 use Rattle.language.proofs.NumberLaws.{digit_more, digit_none, digits_end, few_digits, power_more}
 use Rattle.language.proofs.reading.number.Goals as goal
 

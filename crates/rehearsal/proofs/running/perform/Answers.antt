@@ -1,9 +1,9 @@
-use Rattle.std.proofs.Common.{◌≡◌, ℕ, List, sym, refl, ap, ◌∙◌, subst}
+use Rattle.std.proofs.Common.{sym, ap, subst}
 use Rattle.stack.specs.Pieces.{InOrder, done}
 use Rattle.rules.specs.History.{Step}
 use Rattle.rules.specs.Boards.{board}
 use Rattle.rules.specs.declared.calls.Answer.TheVariants.{Done, Written, Renewed, Cleared, Refused}
-use Rattle.rules.specs.declared.calls.Call.TheVariants.{Read, Write, Renew, Clear, Scrub, Mark, Settle, Pass}
+use Rattle.rules.specs.declared.calls.Call.TheVariants.{Clear, Scrub, Mark, Settle, Pass}
 use Rattle.rules.proofs.Chain.{pass_step, read_step, settle_step, shown_small}
 use Rattle.board.specs.Marks.{listed}
 use Rattle.board.specs.State.{state}

@@ -1,4 +1,4 @@
-use Rattle.std.proofs.Common.{◌≡◌, ℕ, ◌≤◌, min, length, refl, subst, arith}
+use Rattle.std.proofs.Common.{◌≡◌, ◌≤◌, min, length, refl, subst, arith}
 use Rattle.rehearsal.specs.Events.{first_events}
 use Rattle.rehearsal.specs.Traces.{RanOn}
 use Rattle.rehearsal.proofs.Runs.{ran_none, ran_more, rest_more, rest_behind}

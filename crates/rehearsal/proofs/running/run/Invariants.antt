@@ -1,4 +1,4 @@
-use Rattle.std.proofs.Common.{◌≡◌, length, drop}
+use Rattle.std.proofs.Common.{◌≡◌, drop}
 use Rattle.rehearsal.specs.Events.{first_events}
 use Rattle.rehearsal.specs.Traces.{RanOn}
 use Rattle.rehearsal.proofs.running.run.Given as goal

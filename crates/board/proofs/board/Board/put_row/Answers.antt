@@ -1,4 +1,4 @@
-use Rattle.std.proofs.Common.{◌≡◌, length, sym, refl, ap, ◌∙◌, subst, arith}
+use Rattle.std.proofs.Common.{length, sym, refl, ap, ◌∙◌, subst, arith}
 use Rattle.codec.specs.Code.{zero_line}
 use Rattle.codec.specs.Word.{distance}
 use Rattle.stack.specs.Memory.{Fits, cells}

@@ -1,4 +1,4 @@
-use Rattle.std.proofs.Common.{length, refl}
+use Rattle.std.proofs.Common.{refl}
 use Rattle.stack.specs.Pieces.{done, more}
 use Rattle.rules.proofs.Wording.{put_done}
 use Rattle.board.proofs.board.Board.put_when.Goals as goal

@@ -1,9 +1,9 @@
-use Rattle.std.proofs.Common.{◌≡◌, ℕ, ◌+◌, ◌*◌, ◌<◌, ◌≤◌, get_or, replicate, refl, ap, ◌∙◌, subst, ap₂, arith}
+use Rattle.std.proofs.Common.{◌≡◌, ◌<◌, get_or, replicate, refl, ap, ◌∙◌, subst, ap₂, arith}
 use Rattle.std.proofs.lemmas.List.FromFn.{fill_by_all}
 use Rattle.std.proofs.lemmas.List.{get_or-replicate}
 use Rattle.std.specs.List.{range_with_len}
 use Rattle.rules.specs.Places.{image, image_by, xor_over}
-use Rattle.rules.specs.declared.roles.Role.TheVariants.{Line, First, Second, Fifth, Parity, Retired}
+use Rattle.rules.specs.declared.roles.Role.TheVariants.{Line, First, Second, Parity}
 use Rattle.rules.specs.Work.{slot, slots}
 use Rattle.rules.proofs.Geometry.{groups, groups_two}
 use Rattle.rules.proofs.Rows.{row_line, row_first, row_second, row_fifth, row_parity, row_retired, group_range}

@@ -1,4 +1,4 @@
-use Rattle.std.proofs.Common.{◌≡◌, ◌/◌, not, ◌&&◌, eqb, sym, ap, ◌∙◌}
+use Rattle.std.proofs.Common.{◌/◌, not, ap, ◌∙◌}
 use Rattle.std.proofs.lemmas.Bool.{eq-eqb, ne_eqb}
 use Rattle.rules.proofs.Holding.{whole_line, whole_first, whole_second, whole_parity, one_holds, two_holds}
 use Rattle.board.proofs.marks.Marks.holds.Goals as goal

@@ -1,4 +1,4 @@
-use Rattle.std.proofs.Common.{◌≡◌, ◌⊎◌, sym, refl, ◌∙◌, inl, inr, ⊎_elim}
+use Rattle.std.proofs.Common.{◌∙◌, ⊎_elim}
 use Rattle.rules.proofs.Holding.{role_whole, one_own, one_spare, one_else, two_first, two_second, two_spare, two_next, two_fifth, two_else}
 use Rattle.board.proofs.marks.Marks.role.Goals as goal
 

@@ -1,4 +1,4 @@
-use Rattle.std.proofs.Common.{◌≡◌, length, sym, ap, ◌∙◌, subst, rules}
+use Rattle.std.proofs.Common.{◌≡◌, length, sym, ap, ◌∙◌, rules}
 use Rattle.codec.specs.Code.{checks}
 use Rattle.codec.specs.Shown.{check_of, is_short}
 use Rattle.codec.proofs.word.Check.symbols.Goals as goal

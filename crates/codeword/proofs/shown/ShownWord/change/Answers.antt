@@ -1,4 +1,4 @@
-use Rattle.std.proofs.Common.{◌≡◌, ℕ, ◌+◌, ◌-◌, ◌<◌, ◌≤◌, List, ◌++◌, length, get_or, set, sym, ap, ◌∙◌, arith, length-append, rules}
+use Rattle.std.proofs.Common.{◌≡◌, ℕ, ◌-◌, ◌<◌, ◌≤◌, List, ◌++◌, length, get_or, set, sym, ap, ◌∙◌, arith, length-append, rules}
 use lib.Bits.{bit_xor}
 use Rattle.std.proofs.lemmas.List.{set-append_left, set-append_right, set_past, get_or_append_left, get_or-append_right}
 use Rattle.codec.specs.Word.{corrected}
