@@ -10,7 +10,7 @@
                                       a second run over the same folder takes over what it proved
   tools/plant.py --bugs FILE          another list
 
-Each bug is put into a copy of the repository, never into the repository itself, and `rt check CRATE` is run there:
+Each bug is put into a copy of the repository, never into the repository itself, and `rt check` is run there in the crate's folder, and `rt ci` where that proves it:
 
   refused     the crate is not proved any more. 'fact': a need or a step of a proof does not hold.
               'name': a proof file names a step that the bug did away with, or answers where nothing is asked
@@ -46,7 +46,7 @@ import time
 ROOT = os.path.dirname(os.path.dirname(os.path.abspath(__file__)))
 KEYS = ("name", "crate", "file", "class", "old", "new", "free")
 # How the complaint reads about a step that is gone, and about an answer where the contract asks for nothing any more.
-MISSING = re.compile(r"that can be named from here|has no field|is not in scope|the two types are\s+`Prim.Unit {0}`\s+\(expected\)")
+MISSING = re.compile(r"that can be named from here|has no field|is not in scope|is not a field of|the two types are\s+`Prim.Unit {0}`\s+\(expected\)")
 
 
 class Bad(Exception):
@@ -104,65 +104,43 @@ def source_of(root, bug):
 
 
 class Copy:
-    """A copy of the repository to plant bugs in, its target/ as it was before any, and what rt said of each."""
+    """A copy of the repository to plant bugs in, without the edits that must fail, and what the prover said of each bug. What a check keeps
+    of a crate is its folder out/, of which the copy before any bug is held aside."""
 
     def __init__(self, scratch):
         self.tree = os.path.join(scratch, "tree")
-        self.clean = os.path.join(scratch, "target")
+        self.clean = os.path.join(scratch, "out")
         self.said = os.path.join(scratch, "said")
-        os.makedirs(self.tree, exist_ok=True)
-        os.makedirs(self.said, exist_ok=True)
+        for folder in (self.tree, self.clean, self.said):
+            os.makedirs(folder, exist_ok=True)
         for name in os.listdir(self.tree):
-            if name != "target":
-                remove(os.path.join(self.tree, name))
-        for name in os.listdir(ROOT):
-            if name not in (".git", "target"):
-                copy(os.path.join(ROOT, name), os.path.join(self.tree, name))
-        if not os.path.isdir(self.clean):
-            first = os.path.join(ROOT, "target")
-            if os.path.isdir(first):
-                copy(first, self.clean)
-            else:
-                os.makedirs(self.clean)
-        self.restore_all()
+            remove(os.path.join(self.tree, name))
+        copy(os.path.join(ROOT, "crates.txt"), os.path.join(self.tree, "crates.txt"))
+        for crate in os.listdir(os.path.join(ROOT, "crates")):
+            copy(os.path.join(ROOT, "crates", crate), os.path.join(self.tree, "crates", crate))
+            remove(os.path.join(self.tree, "crates", crate, "must-fail"))
+            if os.path.isdir(os.path.join(self.clean, crate)):
+                self.restore(crate)
 
-    def check(self, *names):
-        environment = dict(os.environ, RT_CUT="0")
-        environment.setdefault("RT_JOBS", "1")
+    def run(self, where, *words):
         began = time.time()
-        done = subprocess.run(
-            ["nice", "-n", "5", "rt", "check", *names],
-            cwd=self.tree,
-            env=environment,
-            stdout=subprocess.PIPE,
-            stderr=subprocess.STDOUT,
-            check=False,
-        )
+        done = subprocess.run(["nice", "-n", "5", "rt", *words], cwd=where, stdout=subprocess.PIPE, stderr=subprocess.STDOUT, check=False)
         return done.returncode, done.stdout.decode("utf-8", "replace"), time.time() - began
 
-    def parts(self, crate):
-        return [
-            os.path.join("stamp", crate),
-            os.path.join("stamp", crate + ".tests"),
-            os.path.join("rlib", crate + ".rlib"),
-            os.path.join("inc", crate),
-            os.path.join("inc", crate + ".tests"),
-            os.path.join("obj", crate + ".o"),
-            os.path.join("bin", crate),
-        ]
+    # Proves one crate.
+    def check(self, crate):
+        return self.run(os.path.join(self.tree, "crates", crate), "check")
+
+    # Proves what the bug reaches in all crates, and runs every test and program.
+    def check_all(self):
+        return self.run(self.tree, "ci")
 
     # Keeps what a crate's check left, or puts it back.
     def keep(self, crate):
-        for part in self.parts(crate):
-            move(os.path.join(self.tree, "target", part), os.path.join(self.clean, part))
+        move(os.path.join(self.tree, "crates", crate, "out"), os.path.join(self.clean, crate))
 
     def restore(self, crate):
-        for part in self.parts(crate):
-            move(os.path.join(self.clean, part), os.path.join(self.tree, "target", part))
-
-    def restore_all(self):
-        remove(os.path.join(self.tree, "target"))
-        copy(self.clean, os.path.join(self.tree, "target"))
+        move(os.path.join(self.clean, crate), os.path.join(self.tree, "crates", crate, "out"))
 
 
 def remove(path):
@@ -193,7 +171,7 @@ def first_need(text, tree):
     functions = re.findall(r"^fn (\S+): not proved", text, re.M)
     if not functions:
         # a function without a proof file is told by the file that it would take
-        functions = [f.replace("/", "::") for f in re.findall(r"^note: `[^`]*` of proofs/(\S+)/Answers.antt is to show", text, re.M)]
+        functions = re.findall(r"^fn (\S+): no proof", text, re.M)
     # a message goes on in the lines that start with a blank
     errors = [m.replace("\n ", "") for m in re.findall(r"^\S+:\d+:\d+: error.*(?:\n .*)*", text, re.M)]
     needs = [l for l in text.split("\n") if re.match(r"note: \S+:\d+:\d+: it is not", l)]
@@ -215,23 +193,14 @@ def judge(code, text, tree):
     if re.search(r"^logic=not-proved", text, re.M):
         functions, kind, what = first_need(text, tree)
         return "refused", functions, kind, what
-    ran = re.findall(r"^rt: (\S+ proved, and its (?:run|tests) FAILED)", text, re.M)
-    if ran:
-        return "run", [], "", ran[0]
     lines = [l for l in text.split("\n") if "error" in l or "NOT PROVED" in l] or [text[-200:]]
     return "malformed", [], "", shortened(lines[0], tree)
 
 
-# What notices a bug that its own crate is still proved with.
+# What notices a bug that its own crate is still proved with: crates that are not proved, tests, and runs.
 def above(text, tree):
-    for line in text.split("\n"):
-        ran = re.match(r"rt: (\S+) proved, and its (run|tests) FAILED", line)
-        if ran:
-            return f"{ran[1]}: its {ran[2]}"
-    refused = re.findall(r"^rt: (\S+) NOT PROVED \(exit", text, re.M)
-    if refused:
-        return f"{refused[0]}: {first_need(text, tree)[2]}"
-    return shortened(text[-200:], tree)
+    failed = re.findall(r"^rt: FAILED: (.*)$", text, re.M)
+    return failed[0] if failed else shortened(text[-200:], tree)
 
 
 def run_bug(place, bug):
@@ -245,7 +214,7 @@ def run_bug(place, bug):
         code, said, took = place.check(bug["crate"])
         verdict, functions, kind, what = judge(code, said, place.tree)
         if verdict == "proved":
-            code, said, more = place.check()
+            code, said, more = place.check_all()
             took += more
         with open(os.path.join(place.said, bug["name"]), "w", encoding="utf-8") as out:
             out.write(said)
@@ -253,14 +222,12 @@ def run_bug(place, bug):
             if code == 0:
                 verdict, what = "UNNOTICED", "everything is proved, every test and stored output met"
             else:
-                verdict, what = "above", above(said, place.tree)
+                what = above(said, place.tree)
+                verdict = "run" if what in (f"{bug['crate']} (run)", f"{bug['crate']} (tests)") else "above"
     finally:
         with open(path, "w", encoding="utf-8") as source:
             source.write(text)
-        if verdict in ("above", "UNNOTICED"):
-            place.restore_all()
-        else:
-            place.restore(bug["crate"])
+        place.restore(bug["crate"])
     return dict(bug, verdict=verdict, functions=functions, kind=kind, what=what, took=took)
 
 
@@ -344,9 +311,7 @@ def main():
             code, said, took = place.check(bug["crate"])
             if code != 0:
                 raise Bad(f"{bug['crate']} is not proved before any bug is planted:\n{said[-2000:]}")
-            # what the crate depends on may have been proved too
-            for crate in re.findall(r"^rt: (\S+) proved \(\d+ s\)", said, re.M):
-                place.keep(crate)
+            place.keep(bug["crate"])
             ready.add(bug["crate"])
             print(f"{bug['crate']}: proved as it stands ({took:.0f} s)", flush=True)
         done = run_bug(place, bug)

@@ -5,7 +5,7 @@ Every script follows from the seed and its number alone. Outputs are compared
 byte for byte; the inputs of differing scripts are kept. The summary says how
 often each outcome came up, so that one can judge what the run has covered.
 
-    random_scripts.py --seed=1 --count=1000 --program target/bin/jelotsam
+    random_scripts.py --seed=1 --count=1000 --program crates/jelotsam/out/jelotsam
 """
 
 import argparse
@@ -733,7 +733,7 @@ def main():
     options.add_argument("--count", type=int, default=1000)
     options.add_argument("--start", type=int, default=0, help="number of the first script")
     options.add_argument("--style", choices=[style.__name__ for style, _ in STYLES])
-    options.add_argument("--program", default="target/bin/jelotsam")
+    options.add_argument("--program", default="crates/jelotsam/out/jelotsam")
     options.add_argument("--keep", type=pathlib.Path, default=pathlib.Path("/tmp"))
     options.add_argument("--print", action="store_true", help="only print the scripts")
     chosen = options.parse_args()

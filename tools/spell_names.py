@@ -53,6 +53,15 @@ def ghost(text):
     return spans
 
 
+# Names in which words are joined by capitals; one of them, in snake case, is a lemma's already.
+JOINED = {"timesZ": "times_z", "mulLow": "times_low", "zTimes": "z_times", "firstCheck": "first_check", "correctsAt": "corrects_at", "firstFrom": "first_from"}
+
+
+def respelled(name):
+    """A name with the joined ones in it in snake case."""
+    return "_".join(JOINED.get(part, part) for part in name.split("_"))
+
+
 def new_spelling(name):
     parts = name.replace("′", "'").split("-")
     if parts[0][:1].isupper():
@@ -105,7 +114,8 @@ def collect():
 
 def table():
     own, foreign, present = collect()
-    names = {n: new_spelling(n) for n in own if ("-" in n or "′" in n) and n not in foreign}
+    names = {n: respelled(new_spelling(n)) for n in own if ("-" in n or "′" in n) and n not in foreign}
+    names |= {n: respelled(n) for n in present if "-" not in n and respelled(n) != n}
     return {n: w for n, w in names.items() if n in present and n != w}, present
 
 
