@@ -1,5 +1,5 @@
+// Tests of the board.
 #![tactic(auto)]
 
-// Tests of the board.
 #[cfg(test)]
 mod tests;

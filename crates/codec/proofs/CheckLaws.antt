@@ -2,9 +2,9 @@
 use Rattle.std.proofs.Common.{◌≡◌, ℕ, zero, suc, ◌+◌, ◌-◌, ◌*◌, ◌<◌, ◌≤◌, List, [], ◌∷◌, ◌++◌, length, get_or, take, sym, refl, ap, ◌∙◌, ap₂, zero-add, arith}
 use native.Mathlib.Nat as nat
 use lib.Bits.{bit_xor}
-use Rattle.field.specs.Field.{timesZ, mulLow, mul, pow, raise}
+use Rattle.field.specs.Field.{times_z, times_low, mul, pow, raise}
 use Rattle.codec.specs.Word.{Bytes, locator, coeff, weighted, syndrome, Codeword}
-use Rattle.codec.specs.Check.{turned, remainder, share, firstCheck, check}
+use Rattle.codec.specs.Check.{turned, remainder, share, first_check, check}
 use Rattle.field.proofs.Xor.{xors}
 use Rattle.field.proofs.FieldLaws.{mul_comm, mul_assoc, mul_left_comm, mul_xor_l, mul_xor_r, mul_zero_l, mul_one_l, mul_pow, raise_pow}
 use Rattle.codec.proofs.Sums.{weighted_lt, weighted_append}
@@ -37,19 +37,19 @@ record Root (k x p q r s : ℕ) : Type 0 where
   is : x ≡ pow k
 
 root_1 : Root 1 2 8 4 2 1
-unfolding coeff raise locator pow timesZ mul mulLow
+unfolding coeff raise locator pow times_z mul times_low
 root_1 = record { at_64 = refl; at_65 = refl; at_66 = refl; at_67 = refl; one = refl; up_s = refl; up_r = refl; up_q = refl; root = refl; is = refl }
 
 root_2 : Root 2 4 64 16 4 1
-unfolding coeff raise locator pow timesZ mul mulLow
+unfolding coeff raise locator pow times_z mul times_low
 root_2 = record { at_64 = refl; at_65 = refl; at_66 = refl; at_67 = refl; one = refl; up_s = refl; up_r = refl; up_q = refl; root = refl; is = refl }
 
 root_3 : Root 3 8 58 64 8 1
-unfolding coeff raise locator pow timesZ mul mulLow
+unfolding coeff raise locator pow times_z mul times_low
 root_3 = record { at_64 = refl; at_65 = refl; at_66 = refl; at_67 = refl; one = refl; up_s = refl; up_r = refl; up_q = refl; root = refl; is = refl }
 
 root_4 : Root 4 16 205 29 16 1
-unfolding coeff raise locator pow timesZ mul mulLow
+unfolding coeff raise locator pow times_z mul times_low
 root_4 = record { at_64 = refl; at_65 = refl; at_66 = refl; at_67 = refl; one = refl; up_s = refl; up_r = refl; up_q = refl; root = refl; is = refl }
 
 module _ (k x p q r s : ℕ) (h : Root k x p q r s) where
@@ -95,12 +95,12 @@ module _ (k x p q r s : ℕ) (h : Root k x p q r s) where
       linear v (share 0 n) (share 1 n) (share 2 n) (share 3 n) _ _ _ _
       ∙ ap₂ (λ a b. bit_xor (mul v a) b) (share_value n (omega arith)) (shares_from (suc n) xs (omega arith))
 
-  first_sum : (line : List ℕ) → length line ≡ 64 → weighted (coeff k) 64 (firstCheck line) ≡ syndrome k line
-  unfolding firstCheck syndrome
+  first_sum : (line : List ℕ) → length line ≡ 64 → weighted (coeff k) 64 (first_check line) ≡ syndrome k line
+  unfolding first_check syndrome
   first_sum line l =
       unfold weighted in rw (h.at_64, h.at_65, h.at_66, h.at_67) (simp xors (simp xors at (shares_from 0 line (omega arith))))
 
-mid : (line : List ℕ) → length line ≡ 64 → (k : ℕ) → 1 ≤ k → k ≤ 4 → weighted (coeff k) 64 (firstCheck line) ≡ syndrome k line
+mid : (line : List ℕ) → length line ≡ 64 → (k : ℕ) → 1 ≤ k → k ≤ 4 → weighted (coeff k) 64 (first_check line) ≡ syndrome k line
 mid line l zero a b = absurd (omega arith)
 mid line l (suc zero) a b = first_sum 1 2 8 4 2 1 root_1 line l
 mid line l (suc (suc zero)) a b = first_sum 2 4 64 16 4 1 root_2 line l
@@ -108,26 +108,26 @@ mid line l (suc (suc (suc zero))) a b = first_sum 3 8 58 64 8 1 root_3 line l
 mid line l (suc (suc (suc (suc zero)))) a b = first_sum 4 16 205 29 16 1 root_4 line l
 mid line l (suc (suc (suc (suc (suc k))))) a b = absurd (omega arith)
 
-end : (line : List ℕ) → length line ≡ 64 → (k : ℕ) → syndrome k (line ++ firstCheck line) ≡ bit_xor (syndrome k line) (weighted (coeff k) 64 (firstCheck line))
+end : (line : List ℕ) → length line ≡ 64 → (k : ℕ) → syndrome k (line ++ first_check line) ≡ bit_xor (syndrome k line) (weighted (coeff k) 64 (first_check line))
 unfolding syndrome
 end line l k =
-    weighted_append (coeff k) 0 line (firstCheck line)
-    ∙ ap (λ n. bit_xor (weighted (coeff k) 0 line) (weighted (coeff k) n (firstCheck line))) (zero-add (length line) ∙ l)
+    weighted_append (coeff k) 0 line (first_check line)
+    ∙ ap (λ n. bit_xor (weighted (coeff k) 0 line) (weighted (coeff k) n (first_check line))) (zero-add (length line) ∙ l)
 
 sum_lt : (k : ℕ) (w : List ℕ) → syndrome k w < 256
 unfolding syndrome
 sum_lt k w = weighted_lt (coeff k) 0 w
 
-four : (line : List ℕ) → length (firstCheck line) ≡ 4
-unfolding firstCheck
+four : (line : List ℕ) → length (first_check line) ≡ 4
+unfolding first_check
 four line = refl
 
 pub check_six : (line : List ℕ) → length (check line) ≡ 6
-unfolding check firstCheck
+unfolding check first_check
 check_six line = refl
 
 pub check_bytes : (line : List ℕ) → Bytes (check line)
-unfolding check firstCheck
+unfolding check first_check
 check_bytes line =
     (weighted_lt (share 0) 0 line, (weighted_lt (share 1) 0 line, (weighted_lt (share 2) 0 line, (weighted_lt (share 3) 0 line, (sum_lt 0 _, (sum_lt 5 _, tt))))))
 
@@ -135,13 +135,13 @@ check_bytes line =
 pub check_full : (line : List ℕ) → length line ≡ 64 → Codeword (line ++ check line)
 unfolding check
 check_full line l =
-    full_codeword line (firstCheck line) (syndrome 0 (line ++ firstCheck line)) (syndrome 5 (line ++ firstCheck line)) (sum_lt 0 _) (sum_lt 5 _) l (four line)
+    full_codeword line (first_check line) (syndrome 0 (line ++ first_check line)) (syndrome 5 (line ++ first_check line)) (sum_lt 0 _) (sum_lt 5 _) l (four line)
     (mid line l) (end line l 0) (end line l 5)
 
 -- So is a short word with the first five symbols.
 pub check_short : (line : List ℕ) → length line ≡ 64 → Codeword (line ++ take 5 (check line))
 unfolding check
 check_short line l =
-    unfold firstCheck in
-    short_codeword line (firstCheck line) (syndrome 0 (line ++ firstCheck line)) (syndrome 5 (line ++ firstCheck line)) (sum_lt 0 _) (sum_lt 5 _) l (four line)
+    unfold first_check in
+    short_codeword line (first_check line) (syndrome 0 (line ++ first_check line)) (syndrome 5 (line ++ first_check line)) (sum_lt 0 _) (sum_lt 5 _) l (four line)
     (mid line l) (end line l 0) (end line l 5)

@@ -3,7 +3,7 @@ use Rattle.std.proofs.Common.{◌≡◌, ℕ, zero, suc, ◌+◌, ◌-◌, ◌<�
 use Rattle.std.proofs.lemmas.Bool.{cases_lt, cases_Bool, and_parts, and_from, eqb-true, eqb-false, eq-eqb, ne_eqb, cond-true, cond-false, cond_both, lt-ltb, le-ltb, not-true, not_from_false, both_ways}
 use Rattle.field.specs.Field.{mul}
 use Rattle.codec.specs.Word.{Bytes, coeff, syndrome, Corrects, Found}
-use Rattle.codec.specs.Finder.{value, explained, correctsAt, firstFrom, single_error}
+use Rattle.codec.specs.Finder.{value, explained, corrects_at, first_from, single_error}
 use Rattle.codec.proofs.WordLaws.{syndrome_lt, corrects_from, corrects_to, value_low, value_last}
 use Rattle.codec.proofs.DecodingLaws.{found_unique}
 
@@ -34,9 +34,9 @@ value_only w s e l h m =
     (λ (a : 69 ≤ s). value_last w s e h a m ∙ sym (cond-false (ltb s 69) (syndrome 0 w) (syndrome 5 w) (le-ltb s 69 a)))
     (cases_lt s 69)
 
-correctsAt_sound : (w : List ℕ) (s : ℕ) → s < length w → correctsAt w s ≡ true → Corrects w s (value w s)
-unfolding correctsAt
-correctsAt_sound w s h t =
+corrects_at_sound : (w : List ℕ) (s : ℕ) → s < length w → corrects_at w s ≡ true → Corrects w s (value w s)
+unfolding corrects_at
+corrects_at_sound w s h t =
     let p = and_parts (not (eqb (value w s) 0)) (explained w s (value w s) (length w - 64)) t in
     record {
       inside = h;
@@ -45,30 +45,30 @@ correctsAt_sound w s h t =
       codeword = corrects_from w s (value w s) h (explained_sound w s (value w s) (length w - 64) p.1);
     }
 
-correctsAt_whole : (w : List ℕ) (s e : ℕ) → 69 ≤ length w → length w ≤ 70 → Corrects w s e → correctsAt w s ≡ true
-unfolding correctsAt
-correctsAt_whole w s e l h m =
+corrects_at_whole : (w : List ℕ) (s e : ℕ) → 69 ≤ length w → length w ≤ 70 → Corrects w s e → corrects_at w s ≡ true
+unfolding corrects_at
+corrects_at_whole w s e l h m =
     let v : e ≡ value w s = value_only w s e l h m in
     let ne : value w s ≡ 0 → ⊥ = λ z. m.changes (v ∙ z) in
     and_from (not (eqb (value w s) 0)) (explained w s (value w s) (length w - 64)) (not_from_false (eqb (value w s) 0) (ne_eqb (value w s) 0 ne))
     (explained_whole w s (value w s) (length w - 64) (λ k a. corrects_to w s e m.inside m.codeword k a ∙ ap (λ x. mul x (coeff k s)) v))
 
 -- nothing before s, and the answer from s on
-first_found : (w : List ℕ) (n s : ℕ) → 69 ≤ length w → length w ≤ 70 → s + n ≡ length w → ((t : ℕ) → t < s → (e : ℕ) → Corrects w t e → ⊥) → Found w (firstFrom w s n)
-unfolding firstFrom
+first_found : (w : List ℕ) (n s : ℕ) → 69 ≤ length w → length w ≤ 70 → s + n ≡ length w → ((t : ℕ) → t < s → (e : ℕ) → Corrects w t e → ⊥) → Found w (first_from w s n)
+unfolding first_from
 first_found w zero s l h e none = λ t f m. none t (let i = m.inside in omega arith) f m
 first_found w (suc n) s l h e none =
     ⊎_elim
-    (λ (t : correctsAt w s ≡ true).
-    subst (Found w) (sym (cond-true (correctsAt w s) (Some (s, value w s)) (firstFrom w (suc s) n) t)) (correctsAt_sound w s (omega arith) t))
-    (λ (t : correctsAt w s ≡ false).
-    subst (Found w) (sym (cond-false (correctsAt w s) (Some (s, value w s)) (firstFrom w (suc s) n) t))
+    (λ (t : corrects_at w s ≡ true).
+    subst (Found w) (sym (cond-true (corrects_at w s) (Some (s, value w s)) (first_from w (suc s) n) t)) (corrects_at_sound w s (omega arith) t))
+    (λ (t : corrects_at w s ≡ false).
+    subst (Found w) (sym (cond-false (corrects_at w s) (Some (s, value w s)) (first_from w (suc s) n) t))
     (first_found w n (suc s) l h (omega arith)
     (λ i a f m.
     ⊎_elim (λ (b : i < s). none i b f m)
-    (λ (b : s ≤ i). let is : i ≡ s = omega arith in both_ways (correctsAt w s) t (correctsAt_whole w s f l h (subst (λ x. Corrects w x f) is m)))
+    (λ (b : s ≤ i). let is : i ≡ s = omega arith in both_ways (corrects_at w s) t (corrects_at_whole w s f l h (subst (λ x. Corrects w x f) is m)))
     (cases_lt i s))))
-    (cases_Bool (correctsAt w s))
+    (cases_Bool (corrects_at w s))
 
 pub single_error_found : (w : List ℕ) → 69 ≤ length w → length w ≤ 70 → Found w (single_error w)
 unfolding single_error

@@ -1,7 +1,7 @@
 -- The check of a line by rows of eight bytes: what one more row does to it.
 use Rattle.std.proofs.Common.{◌≡◌, ℕ, zero, suc, ◌+◌, ◌-◌, ◌*◌, ◌/◌, ◌%◌, ◌^◌, ◌<◌, ◌≤◌, T, eqb, List, [], ◌∷◌, ◌++◌, length, sym, refl, ap, ◌∙◌, ap₂, add-mul, suc-add, zero-add, arith, lit<, length-append}
 use lib.Bits.{bit_xor, xor_shr, xor_mod}
-use Rattle.field.specs.Field.{timesZ, mulLow, mul, pow}
+use Rattle.field.specs.Field.{times_z, times_low, mul, pow}
 use Rattle.codec.specs.Word.{locator, coeff, weighted}
 use Rattle.field.specs.Rows.{lane, packed, share, part, carried, advanced}
 use Rattle.field.proofs.Every.{every, same}
@@ -125,7 +125,7 @@ column : ℕ → ℕ → ℕ
 column k j = bit_xor (weighted (local k) 8 (share 0 j ∷ share 1 j ∷ share 2 j ∷ share 3 j ∷ [])) (pick k (share 4 j) (share 5 j))
 
 columns_test : T (every (λ i. eqb (column (i / 8) (i % 8)) (local (i / 8) (i % 8))) 48)
-unfolding every column weighted local share pick pow mul mulLow timesZ
+unfolding every column weighted local share pick pow mul times_low times_z
 columns_test = tt
 
 columns : (k j : ℕ) → k < 6 → j < 8 → column k j ≡ local k j

@@ -24,9 +24,9 @@ unfoldable pub share : ℕ → ℕ → ℕ
 share i s = slice_index (remainder (67 - s)) i
 
 -- symbols 64 to 67
-unfoldable pub firstCheck : List ℕ → List ℕ
-firstCheck line = weighted (share 0) 0 line ∷ weighted (share 1) 0 line ∷ weighted (share 2) 0 line ∷ weighted (share 3) 0 line ∷ []
+unfoldable pub first_check : List ℕ → List ℕ
+first_check line = weighted (share 0) 0 line ∷ weighted (share 1) 0 line ∷ weighted (share 2) 0 line ∷ weighted (share 3) 0 line ∷ []
 
 -- symbols 64 to 69: the last two are S_0 and S_5 of the symbols before them
 unfoldable pub check : List ℕ → List ℕ
-check line = firstCheck line ++ syndrome 0 (line ++ firstCheck line) ∷ syndrome 5 (line ++ firstCheck line) ∷ []
+check line = first_check line ++ syndrome 0 (line ++ first_check line) ∷ syndrome 5 (line ++ first_check line) ∷ []

@@ -12,14 +12,14 @@ unfoldable pub explained : List ℕ → ℕ → ℕ → ℕ → Bool
 explained w s e zero = true
 explained w s e (suc n) = syndrome n w == mul e (coeff n s) && explained w s e n
 
-unfoldable pub correctsAt : List ℕ → ℕ → Bool
-correctsAt w s = not (value w s == 0) && explained w s (value w s) (length w - 64)
+unfoldable pub corrects_at : List ℕ → ℕ → Bool
+corrects_at w s = not (value w s == 0) && explained w s (value w s) (length w - 64)
 
 -- the first of n symbols, from s on, that can be corrected
-unfoldable pub firstFrom : List ℕ → ℕ → ℕ → Option (ℕ × ℕ)
-firstFrom w s zero = None
-firstFrom w s (suc n) = let r = firstFrom w (suc s) n in cond (correctsAt w s) (Some (s, value w s)) r
+unfoldable pub first_from : List ℕ → ℕ → ℕ → Option (ℕ × ℕ)
+first_from w s zero = None
+first_from w s (suc n) = let r = first_from w (suc s) n in cond (corrects_at w s) (Some (s, value w s)) r
 
 -- the number of the one wrong symbol and what corrects it
 unfoldable pub single_error : List ℕ → Option (ℕ × ℕ)
-single_error w = firstFrom w 0 (length w)
+single_error w = first_from w 0 (length w)

@@ -1,6 +1,6 @@
+// The functions for C, called as C calls them: a pointer and a length is a slice here.
 #![tactic(auto)]
 
-// The functions for C, called as C calls them: a pointer and a length is a slice here.
 #[cfg(test)]
 mod tests {
     use ffi::banks::MarkedBanks;

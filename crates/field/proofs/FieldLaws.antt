@@ -3,7 +3,7 @@ use Rattle.std.proofs.Common.{◌≡◌, ℕ, zero, suc, ◌+◌, ◌-◌, ◌*�
 use native.Mathlib.Nat.{mod-mod}
 use native.Mathlib.Nat as nat
 use lib.Bits.{bit_xor, xor_lt, xor_shr, xor_mod, xor_block, xor_self}
-use Rattle.field.specs.Field.{timesZ, mulLow, mul, pow, raise}
+use Rattle.field.specs.Field.{times_z, times_low, mul, pow, raise}
 use Rattle.field.specs.Laws.{Laws}
 use Rattle.field.proofs.Every.{every, at, same}
 use Rattle.field.proofs.Xor.{xor_swap, xor_eq}
@@ -21,26 +21,26 @@ modulus_xor (suc zero) (suc zero) hx hy = refl
 modulus_xor (suc zero) (suc (suc y)) hx hy = absurd (omega arith)
 modulus_xor (suc (suc x)) y hx hy = absurd (omega arith)
 
-pub timesZ_xor : (a b : ℕ) → a < 256 → b < 256 → timesZ (bit_xor a b) ≡ bit_xor (timesZ a) (timesZ b)
-unfolding timesZ
-timesZ_xor a b ha hb =
+pub times_z_xor : (a b : ℕ) → a < 256 → b < 256 → times_z (bit_xor a b) ≡ bit_xor (times_z a) (times_z b)
+unfolding times_z
+times_z_xor a b ha hb =
     let la : a / 128 < 2 = omega arith in
     let lb : b / 128 < 2 = omega arith in
     let e : 0x11D * (bit_xor a b / 128) ≡ bit_xor (0x11D * (a / 128)) (0x11D * (b / 128)) = ap (λ n. 0x11D * n) (xor_shr a b 7) ∙ modulus_xor (a / 128) (b / 128) la lb in
     rw (double_xor a b, e) (xor_swap (2 * a) (2 * b) (0x11D * (a / 128)) (0x11D * (b / 128)))
 
-pub timesZ_lt : (a : ℕ) → a < 256 → timesZ a < 256
-unfolding timesZ every
-timesZ_lt a h = ltb→lt (timesZ a) 256 (at (λ k. ltb (timesZ k) 256) 256 tt a h)
+pub times_z_lt : (a : ℕ) → a < 256 → times_z a < 256
+unfolding times_z every
+times_z_lt a h = ltb→lt (times_z a) 256 (at (λ k. ltb (times_z k) 256) 256 tt a h)
 
 -- z times a byte is 0 only at 0
-zero_test : T (every (λ k. cond (eqb (timesZ k) 0) (eqb k 0) true) 256)
-unfolding timesZ every
+zero_test : T (every (λ k. cond (eqb (times_z k) 0) (eqb k 0) true) 256)
+unfolding times_z every
 zero_test = tt
 
-pub timesZ_zero : (a : ℕ) → a < 256 → timesZ a ≡ 0 → a ≡ 0
-timesZ_zero a h e =
-    eqb→eq a 0 (subst (λ n. T (cond (eqb n 0) (eqb a 0) true)) e (at (λ k. cond (eqb (timesZ k) 0) (eqb k 0) true) 256 zero_test a h))
+pub times_z_zero : (a : ℕ) → a < 256 → times_z a ≡ 0 → a ≡ 0
+times_z_zero a h e =
+    eqb→eq a 0 (subst (λ n. T (cond (eqb n 0) (eqb a 0) true)) e (at (λ k. cond (eqb (times_z k) 0) (eqb k 0) true) 256 zero_test a h))
 
 -- a bit of b picks a or 0
 pick_lt : (t : Bool) (a : ℕ) → a < 256 → cond t 0 a < 256
@@ -55,56 +55,56 @@ pick_xor : (t : Bool) (a b : ℕ) → cond t 0 (bit_xor a b) ≡ bit_xor (cond t
 pick_xor true a b = refl
 pick_xor false a b = refl
 
-pick_timesZ : (t : Bool) (a : ℕ) → cond t 0 (timesZ a) ≡ timesZ (cond t 0 a)
-unfolding timesZ
-pick_timesZ true a = refl
-pick_timesZ false a = refl
+pick_times_z : (t : Bool) (a : ℕ) → cond t 0 (times_z a) ≡ times_z (cond t 0 a)
+unfolding times_z
+pick_times_z true a = refl
+pick_times_z false a = refl
 
-mulLow_lt : (n a b : ℕ) → a < 256 → mulLow n a b < 256
-unfolding mulLow
-mulLow_lt zero a b h = lit< tt
-mulLow_lt (suc n) a b h = xor_lt 8 (cond (eqb (b % 2) 0) 0 a) (mulLow n (timesZ a) (b / 2)) (pick_lt (eqb (b % 2) 0) a h) (mulLow_lt n (timesZ a) (b / 2) (timesZ_lt a h))
+times_low_lt : (n a b : ℕ) → a < 256 → times_low n a b < 256
+unfolding times_low
+times_low_lt zero a b h = lit< tt
+times_low_lt (suc n) a b h = xor_lt 8 (cond (eqb (b % 2) 0) 0 a) (times_low n (times_z a) (b / 2)) (pick_lt (eqb (b % 2) 0) a h) (times_low_lt n (times_z a) (b / 2) (times_z_lt a h))
 
-mulLow_xor : (n a c b : ℕ) → a < 256 → c < 256 → mulLow n (bit_xor a c) b ≡ bit_xor (mulLow n a b) (mulLow n c b)
-unfolding mulLow
-mulLow_xor zero a c b ha hc = refl
-mulLow_xor (suc n) a c b ha hc =
-    rw (pick_xor (eqb (b % 2) 0) a c, timesZ_xor a c ha hc, mulLow_xor n (timesZ a) (timesZ c) (b / 2) (timesZ_lt a ha) (timesZ_lt c hc))
-    (xor_swap (cond (eqb (b % 2) 0) 0 a) (cond (eqb (b % 2) 0) 0 c) (mulLow n (timesZ a) (b / 2)) (mulLow n (timesZ c) (b / 2)))
+times_low_xor : (n a c b : ℕ) → a < 256 → c < 256 → times_low n (bit_xor a c) b ≡ bit_xor (times_low n a b) (times_low n c b)
+unfolding times_low
+times_low_xor zero a c b ha hc = refl
+times_low_xor (suc n) a c b ha hc =
+    rw (pick_xor (eqb (b % 2) 0) a c, times_z_xor a c ha hc, times_low_xor n (times_z a) (times_z c) (b / 2) (times_z_lt a ha) (times_z_lt c hc))
+    (xor_swap (cond (eqb (b % 2) 0) 0 a) (cond (eqb (b % 2) 0) 0 c) (times_low n (times_z a) (b / 2)) (times_low n (times_z c) (b / 2)))
 
-mulLow_timesZ : (n a b : ℕ) → a < 256 → mulLow n (timesZ a) b ≡ timesZ (mulLow n a b)
-unfolding mulLow
-mulLow_timesZ zero a b h = unfold timesZ in refl
-mulLow_timesZ (suc n) a b h =
-    rw (pick_timesZ (eqb (b % 2) 0) a, mulLow_timesZ n (timesZ a) (b / 2) (timesZ_lt a h))
-    (sym (timesZ_xor (cond (eqb (b % 2) 0) 0 a) (mulLow n (timesZ a) (b / 2)) (pick_lt (eqb (b % 2) 0) a h) (mulLow_lt n (timesZ a) (b / 2) (timesZ_lt a h))))
+times_low_times_z : (n a b : ℕ) → a < 256 → times_low n (times_z a) b ≡ times_z (times_low n a b)
+unfolding times_low
+times_low_times_z zero a b h = unfold times_z in refl
+times_low_times_z (suc n) a b h =
+    rw (pick_times_z (eqb (b % 2) 0) a, times_low_times_z n (times_z a) (b / 2) (times_z_lt a h))
+    (sym (times_z_xor (cond (eqb (b % 2) 0) 0 a) (times_low n (times_z a) (b / 2)) (pick_lt (eqb (b % 2) 0) a h) (times_low_lt n (times_z a) (b / 2) (times_z_lt a h))))
 
-mulLow_zero : (n b : ℕ) → mulLow n 0 b ≡ 0
-unfolding mulLow timesZ
-mulLow_zero zero b = refl
-mulLow_zero (suc n) b = rw (pick_zero (eqb (b % 2) 0)) (mulLow_zero n (b / 2))
+times_low_zero : (n b : ℕ) → times_low n 0 b ≡ 0
+unfolding times_low times_z
+times_low_zero zero b = refl
+times_low_zero (suc n) b = rw (pick_zero (eqb (b % 2) 0)) (times_low_zero n (b / 2))
 
-mulLow_none : (n a : ℕ) → mulLow n a 0 ≡ 0
-unfolding mulLow
-mulLow_none zero a = refl
-mulLow_none (suc n) a = mulLow_none n (timesZ a)
+times_low_none : (n a : ℕ) → times_low n a 0 ≡ 0
+unfolding times_low
+times_low_none zero a = refl
+times_low_none (suc n) a = times_low_none n (times_z a)
 
 -- ---- powers of α
 
 -- z^k times b
-zTimes : ℕ → ℕ → ℕ
-zTimes zero b = b
-zTimes (suc k) b = timesZ (zTimes k b)
+z_times : ℕ → ℕ → ℕ
+z_times zero b = b
+z_times (suc k) b = times_z (z_times k b)
 
-zTimes_lt : (k b : ℕ) → b < 256 → zTimes k b < 256
-unfolding zTimes
-zTimes_lt zero b h = h
-zTimes_lt (suc k) b h = timesZ_lt (zTimes k b) (zTimes_lt k b h)
+z_times_lt : (k b : ℕ) → b < 256 → z_times k b < 256
+unfolding z_times
+z_times_lt zero b h = h
+z_times_lt (suc k) b h = times_z_lt (z_times k b) (z_times_lt k b h)
 
-zTimes_pow : (k j : ℕ) → zTimes k (pow j) ≡ pow (k + j)
-unfolding zTimes pow
-zTimes_pow zero j = ap pow (sym (zero-add j))
-zTimes_pow (suc k) j = ap timesZ (zTimes_pow k j) ∙ ap pow (sym (suc-add k j))
+z_times_pow : (k j : ℕ) → z_times k (pow j) ≡ pow (k + j)
+unfolding z_times pow
+z_times_pow zero j = ap pow (sym (zero-add j))
+z_times_pow (suc k) j = ap times_z (z_times_pow k j) ∙ ap pow (sym (suc-add k j))
 
 pow_0 : pow 0 ≡ 1
 unfolding pow
@@ -113,32 +113,32 @@ pow_0 = refl
 pub pow_lt : (k : ℕ) → pow k < 256
 unfolding pow
 pow_lt zero = lit< tt
-pow_lt (suc k) = timesZ_lt (pow k) (pow_lt k)
+pow_lt (suc k) = times_z_lt (pow k) (pow_lt k)
 
 pub pow_nonzero : (k : ℕ) → pow k ≢ 0
 unfolding pow
 pow_nonzero zero e = omega arith
-pow_nonzero (suc k) e = pow_nonzero k (timesZ_zero (pow k) (pow_lt k) e)
+pow_nonzero (suc k) e = pow_nonzero k (times_z_zero (pow k) (pow_lt k) e)
 
-one_test : T (every (λ k. eqb (mulLow 8 1 k) k) 256)
-unfolding timesZ mulLow every
+one_test : T (every (λ k. eqb (times_low 8 1 k) k) 256)
+unfolding times_z times_low every
 one_test = tt
 
-low_one : (b : ℕ) → b < 256 → mulLow 8 1 b ≡ b
-low_one = same (λ k. mulLow 8 1 k) (λ k. k) 256 one_test
+low_one : (b : ℕ) → b < 256 → times_low 8 1 b ≡ b
+low_one = same (λ k. times_low 8 1 k) (λ k. k) 256 one_test
 
-low_pow : (k b : ℕ) → b < 256 → mulLow 8 (pow k) b ≡ zTimes k b
-unfolding pow zTimes
+low_pow : (k b : ℕ) → b < 256 → times_low 8 (pow k) b ≡ z_times k b
+unfolding pow z_times
 low_pow zero b h = low_one b h
-low_pow (suc k) b h = mulLow_timesZ 8 (pow k) b (pow_lt k) ∙ ap timesZ (low_pow k b h)
+low_pow (suc k) b h = times_low_times_z 8 (pow k) b (pow_lt k) ∙ ap times_z (low_pow k b h)
 
 -- on bytes the product is the sum over the bits
-mul_low : (a b : ℕ) → a < 256 → b < 256 → mul a b ≡ mulLow 8 a b
+mul_low : (a b : ℕ) → a < 256 → b < 256 → mul a b ≡ times_low 8 a b
 unfolding mul
 mul_low a b ha hb = rw (mod-eq_of_lt ha, mod-eq_of_lt hb)
 
 pub mul_pow : (i j : ℕ) → mul (pow i) (pow j) ≡ pow (i + j)
-mul_pow i j = mul_low (pow i) (pow j) (pow_lt i) (pow_lt j) ∙ low_pow i (pow j) (pow_lt j) ∙ zTimes_pow i j
+mul_pow i j = mul_low (pow i) (pow j) (pow_lt i) (pow_lt j) ∙ low_pow i (pow j) (pow_lt j) ∙ z_times_pow i j
 
 -- ---- logarithms
 
@@ -150,21 +150,21 @@ index a (x ∷ xs) = let r = index a xs in cond (eqb x a) 0 (suc r)
 -- n numbers, each z times the one before
 unfoldable pub run : ℕ → ℕ → List ℕ
 run zero x = []
-run (suc n) x = x ∷ run n (timesZ x)
+run (suc n) x = x ∷ run n (times_z x)
 
-zTimes_first : (k x : ℕ) → zTimes k (timesZ x) ≡ timesZ (zTimes k x)
-unfolding zTimes
-zTimes_first zero x = refl
-zTimes_first (suc k) x = ap timesZ (zTimes_first k x)
+z_times_first : (k x : ℕ) → z_times k (times_z x) ≡ times_z (z_times k x)
+unfolding z_times
+z_times_first zero x = refl
+z_times_first (suc k) x = ap times_z (z_times_first k x)
 
-run_at : (n x k : ℕ) → k < n → get_or (run n x) k 0 ≡ zTimes k x
-unfolding run zTimes
+run_at : (n x k : ℕ) → k < n → get_or (run n x) k 0 ≡ z_times k x
+unfolding run z_times
 run_at zero x k h = absurd (omega arith)
 run_at (suc n) x zero h = refl
-run_at (suc n) x (suc k) h = run_at n (timesZ x) k (omega arith) ∙ zTimes_first k x
+run_at (suc n) x (suc k) h = run_at n (times_z x) k (omega arith) ∙ z_times_first k x
 
 pub run_pow : (n k : ℕ) → k < n → get_or (run n 1) k 0 ≡ pow k
-run_pow n k h = run_at n 1 k h ∙ ap (zTimes k) (sym pow_0) ∙ zTimes_pow k 0 ∙ ap pow (add-zero k)
+run_pow n k h = run_at n 1 k h ∙ ap (z_times k) (sym pow_0) ∙ z_times_pow k 0 ∙ ap pow (add-zero k)
 
 -- the powers of α from α^0 on
 unfoldable pub powers : List ℕ
@@ -185,15 +185,15 @@ tabled_at f (suc n) i zero h = ap f (sym (add-zero i))
 tabled_at f (suc n) i (suc k) h = tabled_at f n (suc i) k (omega arith) ∙ ap f (suc-add i k ∙ sym (add-suc i k))
 
 pow_log_test : T (every (λ k. eqb (pow (log (suc k))) (suc k)) 255)
-unfolding every log powers run index pow timesZ
+unfolding every log powers run index pow times_z
 pow_log_test = tt
 
 log_lt_test : T (every (λ k. ltb (log (suc k)) 255) 255)
-unfolding every log powers run index timesZ
+unfolding every log powers run index times_z
 log_lt_test = tt
 
 log_pow_test : T (every (λ k. eqb (log (pow k)) k) 255)
-unfolding every log powers run index pow timesZ
+unfolding every log powers run index pow times_z
 log_pow_test = tt
 
 pub pow_log : (a : ℕ) → a < 256 → a ≢ 0 → pow (log a) ≡ a
@@ -212,11 +212,11 @@ pub pow_distinct : (i j : ℕ) → i < 255 → j < 255 → pow i ≡ pow j → i
 pow_distinct i j hi hj e = sym (log_pow i hi) ∙ ap log e ∙ log_pow j hj
 
 pub pow_255 : pow 255 ≡ 1
-unfolding pow timesZ
+unfolding pow times_z
 pow_255 = refl
 
 pub pow_turn : (k : ℕ) → pow (k + 255) ≡ pow k
-pow_turn k = sym (mul_pow k 255) ∙ ap (mul (pow k)) pow_255 ∙ mul_low (pow k) 1 (pow_lt k) (lit< tt) ∙ low_pow k 1 (lit< tt) ∙ ap (zTimes k) (sym pow_0) ∙ zTimes_pow k 0 ∙ ap pow (add-zero k)
+pow_turn k = sym (mul_pow k 255) ∙ ap (mul (pow k)) pow_255 ∙ mul_low (pow k) 1 (pow_lt k) (lit< tt) ∙ low_pow k 1 (lit< tt) ∙ ap (z_times k) (sym pow_0) ∙ z_times_pow k 0 ∙ ap pow (add-zero k)
 
 pow_turns : (q r : ℕ) → pow (r + q * 255) ≡ pow r
 pow_turns zero r = ap pow (omega arith)
@@ -230,7 +230,7 @@ pow_mod n = sym (pow_turns (n / 255) (n % 255)) ∙ ap pow (nat.mod-add-div' n 2
 
 pub mul_lt : (a b : ℕ) → mul a b < 256
 unfolding mul
-mul_lt a b = mulLow_lt 8 (a % 256) (b % 256) (omega arith)
+mul_lt a b = times_low_lt 8 (a % 256) (b % 256) (omega arith)
 
 pub mul_bytes : (a b : ℕ) → mul a b ≡ mul (a % 256) (b % 256)
 unfolding mul
@@ -238,11 +238,11 @@ mul_bytes a b = rw (mod-mod a 256, mod-mod b 256)
 
 pub mul_zero_l : (b : ℕ) → mul 0 b ≡ 0
 unfolding mul
-mul_zero_l b = mulLow_zero 8 (b % 256)
+mul_zero_l b = times_low_zero 8 (b % 256)
 
 pub mul_zero_r : (a : ℕ) → mul a 0 ≡ 0
 unfolding mul
-mul_zero_r a = mulLow_none 8 (a % 256)
+mul_zero_r a = times_low_none 8 (a % 256)
 
 pub mul_one_l : (b : ℕ) → b < 256 → mul 1 b ≡ b
 mul_one_l b h = mul_low 1 b (lit< tt) h ∙ low_one b h
@@ -289,7 +289,7 @@ mul_assoc a b c =
 
 pub mul_xor_l : (a b c : ℕ) → mul (bit_xor a b) c ≡ bit_xor (mul a c) (mul b c)
 unfolding mul
-mul_xor_l a b c = rw (xor_mod a b 8) (mulLow_xor 8 (a % 256) (b % 256) (c % 256) (byte a) (byte b))
+mul_xor_l a b c = rw (xor_mod a b 8) (times_low_xor 8 (a % 256) (b % 256) (c % 256) (byte a) (byte b))
 
 pub mul_xor_r : (a b c : ℕ) → mul a (bit_xor b c) ≡ bit_xor (mul a b) (mul a c)
 mul_xor_r a b c = rw (mul_comm a (bit_xor b c), mul_comm a b, mul_comm a c) (mul_xor_l b c a)

@@ -3,22 +3,22 @@
 use Rattle.std.specs.Prelude.{◌≡◌, ℕ, zero, suc, ◌*◌, ◌/◌, ◌%◌, ◌<◌, cond, List, [], ◌∷◌, Some, None, Option, ◌==◌, bit_xor}
 
 -- z times a byte: doubled, and the modulus added where z^8 came, which is where bit 7 was set
-unfoldable pub timesZ : ℕ → ℕ
-timesZ a = bit_xor (2 * a) (0x11D * (a / 128))
+unfoldable pub times_z : ℕ → ℕ
+times_z a = bit_xor (2 * a) (0x11D * (a / 128))
 
 -- the sum of z^k times a over those k < n at which b has bit k
-unfoldable pub mulLow : ℕ → ℕ → ℕ → ℕ
-mulLow zero a b = 0
-mulLow (suc n) a b = bit_xor (cond (b % 2 == 0) 0 a) (mulLow n (timesZ a) (b / 2))
+unfoldable pub times_low : ℕ → ℕ → ℕ → ℕ
+times_low zero a b = 0
+times_low (suc n) a b = bit_xor (cond (b % 2 == 0) 0 a) (times_low n (times_z a) (b / 2))
 
 -- the product of two bytes (of two numbers: of their low bytes)
 unfoldable pub mul : ℕ → ℕ → ℕ
-mul a b = mulLow 8 (a % 256) (b % 256)
+mul a b = times_low 8 (a % 256) (b % 256)
 
 -- α^k
 unfoldable pub pow : ℕ → ℕ
 pow zero = 1
-pow (suc k) = timesZ (pow k)
+pow (suc k) = times_z (pow k)
 
 -- x^k
 unfoldable pub raise : ℕ → ℕ → ℕ

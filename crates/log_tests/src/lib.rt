@@ -1,6 +1,6 @@
+// Tests of the error log.
 #![tactic(auto)]
 
-// Tests of the error log.
 #[cfg(test)]
 mod tests {
     use codec::word::Finding;

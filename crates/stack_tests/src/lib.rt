@@ -1,5 +1,5 @@
+// Tests of the memories and of the layers over them.
 #![tactic(auto)]
 
-// Tests of the memories and of the layers over them.
 #[cfg(test)]
 mod tests;

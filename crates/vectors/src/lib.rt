@@ -1,6 +1,6 @@
+// The worked examples of the codec, and what a second program says of lines and of damaged words, run as tests.
 #![tactic(auto)]
 
-// The worked examples of the codec, and what a second program says of lines and of damaged words, run as tests.
 #[cfg(test)]
 mod damaged;
 #[cfg(test)]

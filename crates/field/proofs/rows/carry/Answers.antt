@@ -1,6 +1,6 @@
 -- The table has α^40 times each byte: antt computes it.
 use Rattle.std.proofs.Common.{◌≡◌, ℕ, ◌+◌, ◌*◌, ◌<◌, get_or, ap, ◌∙◌, zero-add, arith}
-use Rattle.field.specs.Field.{timesZ, mulLow, mul, pow}
+use Rattle.field.specs.Field.{times_z, times_low, mul, pow}
 use Rattle.field.specs.Rows.{packed}
 use Rattle.field.proofs.FieldLaws.{tabled, tabled_at, mul_lt}
 use Rattle.field.proofs.rows.carry.Goals as goal
@@ -20,12 +20,12 @@ unfolding moved packed
 whole e f x p = omega arith
 
 pub overflow_add-result : goal.overflow_add-result
-unfolding tabled moved mul mulLow pow timesZ
+unfolding tabled moved mul times_low pow times_z
 overflow_add-result c =
     let he : c.args.e < 256 = omega arith in
     let hf : c.args.f < 256 = omega arith in
     record { fits = bound c.args.e c.args.f _ he (entry c.args.f hf) }
 
 pub returns : goal.returns
-unfolding tabled moved mul mulLow pow timesZ
+unfolding tabled moved mul times_low pow times_z
 returns c = let hf : c.args.f < 256 = omega arith in record { is_moved_on = whole c.args.e c.args.f _ (entry c.args.f hf) }

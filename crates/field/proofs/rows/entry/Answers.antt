@@ -1,6 +1,6 @@
 -- The table is the list of the parts: antt computes it.
 use Rattle.std.proofs.Common.{◌≡◌, ℕ, ◌+◌, ◌*◌, ◌/◌, ◌%◌, ◌<◌, get_or, ap, ◌∙◌, ap₂, zero-add, arith}
-use Rattle.field.specs.Field.{timesZ, mulLow, mul}
+use Rattle.field.specs.Field.{times_z, times_low, mul}
 use Rattle.field.specs.Rows.{part, packed, share}
 use Rattle.field.proofs.FieldLaws.{tabled, tabled_at}
 use Rattle.field.proofs.rows.entry.Goals as goal
@@ -17,5 +17,5 @@ entries j v hj hv =
     tabled_at placed 2048 0 i (omega arith) ∙ ap placed (zero-add i) ∙ ap₂ part q r
 
 pub returns : goal.returns
-unfolding tabled placed part packed share mul mulLow timesZ
+unfolding tabled placed part packed share mul times_low times_z
 returns c = let h : c.args.v < 256 = omega arith in record { is_the_part = entries c.args.j c.args.v c.requires.one_of_eight h }
