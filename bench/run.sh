@@ -9,8 +9,9 @@ gcc -O3 -o target/bench bench/bench.c target/staticlib/libcodec.a -lfec -lm
 for what in words boards; do
     gcc -O3 -Iinclude -o "target/bench_$what" "bench/$what.c" target/staticlib/libffi.a -lfec -lm
 done
-target/bench
-echo
-target/bench_words
-echo
-target/bench_boards
+slow=0
+for what in bench bench_words bench_boards; do
+    "target/$what" || slow=1
+    echo
+done
+exit $slow

@@ -1,7 +1,7 @@
 /*
  * Jelotsam for C: words of a line and its check, and a board over memory that the caller lends for each call.
  *
- * Build the library with `rt staticlib ffi`; link target/staticlib/libffi.a and the kit's librattle_c.a (examples/run.sh).
+ * Build the library with `tools/static_library.sh ffi`, and link target/staticlib/libffi.a (examples/run.sh).
  * Nothing here allocates or keeps anything between calls. Every function refuses bad lengths by number; none relies on a test by its
  * caller, but for what C cannot check: a pointer leads to as many bytes as the length beside it says (or to a whole struct), and no two
  * buffers of a call overlap. A length of 0 still wants a pointer that is not null.
