@@ -46,7 +46,7 @@ import time
 ROOT = os.path.dirname(os.path.dirname(os.path.abspath(__file__)))
 KEYS = ("name", "crate", "file", "class", "old", "new", "free")
 # How the complaint reads about a step that is gone, and about an answer where the contract asks for nothing any more.
-MISSING = re.compile(r"that can be named from here|has no field|is not in scope|is not a field of|the two types are\s+`Prim.Unit {0}`\s+\(expected\)")
+MISSING = re.compile(r"that can be named from here|has no field|is not in scope|is not a field of|the two types are\s+`(?:Prim\.)?Unit \{0\}`\s+\(expected\)")
 
 
 class Bad(Exception):

@@ -317,28 +317,30 @@ static int read_lines(uint8_t words[LINES][FULL]) {
     return 0;
 }
 
-static const char *name(answer a) {
-    return a.reply.refusal ? "Uncorrectable" : a.reply.finding == JELOTSAM_CORRECTED ? "Corrected" : "Clean";
+static void print_said(const char *field, answer a) {
+    printf("        %s: ", field);
+    if (a.reply.refusal)
+        printf("Err(Uncorrectable),\n");
+    else if (a.reply.finding == JELOTSAM_CORRECTED)
+        printf("Ok(Finding::Corrected((%zu, 0x%02X))),\n", a.reply.symbol, a.reply.value);
+    else
+        printf("Ok(Finding::Clean),\n");
 }
 
-// Prints an entry of the table and answers 1, or 0 if more symbols are wrong than it has room for.
+// Prints an entry of the table and answers 1, or 0 if more symbols are wrong than an entry may list.
 static int print_entry(int line, const uint8_t *word, const uint8_t *shown) {
-    int count = 0, wrong[WRONG] = {0};
-    uint8_t xors[WRONG] = {0};
+    int count = 0, wrong[WRONG];
     for (int s = 0; s < FULL; s++) {
         if (shown[s] == word[s]) continue;
         if (count == WRONG) return 0;
-        wrong[count] = s;
-        xors[count++] = shown[s] ^ word[s];
+        wrong[count++] = s;
     }
-    answer full = predict(shown, FULL, 0), shorter = predict(shown, SHORT, 0);
-    answer with_pair = full.reply.value ? full : shorter;
-    printf("    Damaged {\n        line: %d,\n        wrong: [%d", line, wrong[0]);
-    for (int i = 1; i < WRONG; i++) printf(", %d", wrong[i]);
-    printf("],\n        xors: [0x%02X", xors[0]);
-    for (int i = 1; i < WRONG; i++) printf(", 0x%02X", xors[i]);
-    printf("],\n        full: Said::%s,\n        short: Said::%s,\n", name(full), name(shorter));
-    printf("        symbol: %zu,\n        xor: 0x%02X,\n    },\n", with_pair.reply.symbol, with_pair.reply.value);
+    printf("    Damaged {\n        line: %d,\n        wrong: &[", line);
+    for (int i = 0; i < count; i++) printf("%s(%d, 0x%02X)", i ? ", " : "", wrong[i], shown[wrong[i]] ^ word[wrong[i]]);
+    printf("],\n");
+    print_said("full", predict(shown, FULL, 0));
+    print_said("short", predict(shown, SHORT, 0));
+    printf("    },\n");
     return 1;
 }
 

@@ -1,7 +1,9 @@
 -- The marked banks as the board has them, as a list.
-use Rattle.std.specs.Prelude.{◌≡◌, ℕ, Bool, List, [], ◌∷◌, ◌++◌, Some, None, Option, Result, MatchResult, nat_lt}
+use Rattle.std.specs.Prelude.{◌≡◌, ℕ, ◌<◌, Bool, List, [], ◌∷◌, ◌++◌, Some, None, Option, Result, MatchResult, nat_lt}
 use Rattle.stack.specs.declared.refusal.Refusal.{Refusal}
 use Rattle.stack.specs.declared.refusal.Refusal.TheVariants.{BankOutOfRange}
+use Rattle.rules.specs.declared.roles.Role.{Role}
+use Rattle.rules.specs.declared.roles.Role.TheVariants.{Fifth, First, Line, Parity, Retired, Second}
 use Rattle.rules.specs.Places.{role, group_of}
 use Rattle.rules.specs.Rules.{of_group, unless}
 use Rattle.rules.specs.Work.{markable}
@@ -13,6 +15,15 @@ abbrev pub listed : Marks → List ℕ
 listed Zero = []
 listed (One m) = m.number ∷ []
 listed (Two m n) = m.number ∷ n.number ∷ []
+
+-- a role speaks of a bank or a group that there is
+abbrev pub IsReal : Role → Type 0
+IsReal (Line b) = b < 64
+IsReal (First q) = q < 4
+IsReal (Second q) = q < 2
+IsReal Fifth = Unit {0}
+IsReal (Parity g) = g < 2
+IsReal Retired = Unit {0}
 
 -- a bank that may be marked, added
 pub record Added (before : Marks) (bank : Bank) (after : Marks) : Type 0 where

@@ -1,13 +1,14 @@
 // A board over a stack of memory.
-ghost use Rattle.std.specs.Prelude.{◌≡◌, ℕ, ◌/◌, ◌<◌, ◌++◌, length, OnErr};
+ghost use Rattle.std.specs.Prelude.{◌≡◌, ℕ, ◌+◌, ◌-◌, ◌/◌, ◌<◌, ◌++◌, length, OnErr};
 ghost use Rattle.codec.specs.Code.{judging};
 ghost use Rattle.codec.specs.Shown.{check_of, symbols, told, Kept};
-ghost use Rattle.stack.specs.Memory.{Rest};
+ghost use Rattle.stack.specs.Memory.{Fits, Rest};
 ghost use Rattle.rules.specs.Rules.{answer, decoded, rebuilding, reading};
+ghost use Rattle.rules.specs.Places.{group_start, group_count, role as role_in, unmarked_role};
 ghost use Rattle.rules.specs.Work.{Sums, SumsGroup};
 ghost use Rattle.rules.specs.declared.calls.Call.TheVariants.{Read};
-ghost use Rattle.board.specs.Marks.{listed, holds_of_group};
-ghost use Rattle.board.specs.State.{Answers, state, shown_line, shown_check};
+ghost use Rattle.board.specs.Marks.{listed, holds_of_group, IsReal};
+ghost use Rattle.board.specs.State.{Answers, TellsAddress, state, first_then, shown_line, shown_check};
 ghost use Rattle.board.specs.Told.{obtained_by, told_read};
 
 mod rows;
@@ -16,9 +17,12 @@ mod storing;
 use super::lines::xor_into;
 use super::marks::Marks;
 use codec::code::{decode, judge};
-use codec::word::{Check, Finding, Uncorrectable, Word};
+use codec::word::{Check, Finding, Line, Uncorrectable, Word};
+use rules::roles::Role;
 use stack::memory::Stack;
+use stack::place::Place;
 use stack::refusal::Refusal;
+use std::ops::Range;
 
 // How long the buffer of a read has to be.
 const LINE: usize = 64;
@@ -66,14 +70,16 @@ impl<S: Stack> Board<S> {
         ensures answers_as_ruled { Answers S.Stack self.now (Read address (length into.old)) (told_read result into.new) }
         ensures a_refusal_leaves_the_buffer { OnErr result (into.new ≡ into.old) }
     {
-        if address / 64 >= self.stack.size() {
-            return Err(Refusal::AddressOutOfRange);
-        }
+        self.check_address(address)?;
         if into.len() != LINE {
             return Err(Refusal::LineLength);
         }
         let mut line = [0u8; 64];
-        let finding = self.read_line(address, &mut line)?;
+        let site = Site {
+            board: self,
+            address,
+        };
+        let finding = site.read_line(&mut line)?;
         into.copy_from_slice(&line);
         Ok(finding)
     }
@@ -96,141 +102,222 @@ impl<S: Stack> Board<S> {
         self.stack.pass();
     }
 
-    // The line of an address, decoded, or rebuilt from its group where that fails.
-    fn read_line(&self, address: usize, line: &mut [u8; 64]) -> Result<Finding, Refusal>
-        requires in_range { address / 64 < (S.Stack.means self.now.stack).size }
-        ensures reads { reading (state S.Stack self.now) address ≡ obtained_by result line.new }
+    // Whether there is such an address.
+    fn check_address(&self, address: usize) -> Result<(), Refusal>
+        ensures tells_whether { TellsAddress (S.Stack.means self.now.stack).size address result }
     {
-        match self.decode_word(address, line) {
+        if address / 64 < self.stack.size() {
+            Ok(())
+        } else {
+            Err(Refusal::AddressOutOfRange)
+        }
+    }
+}
+
+// An address that lies in a board's memory, for reading. What puts changes the board and cannot hold it lent, so it asks for the same fact.
+#[derive(Drop)]
+struct Site<'a, S: Stack> {
+    board: &'a Board<S>,
+    address: usize,
+    ghost in_range: { address / 64 < (S.Stack.means board.now.stack).size },
+}
+
+impl<S: Stack> Site<'_, S> {
+    // The line of an address, decoded, or rebuilt from its group where that fails.
+    fn read_line(&self, line: &mut Line) -> Result<Finding, Refusal>
+        ensures reads { reading (state S.Stack self.now.board.now) self.now.address ≡ obtained_by result line.new }
+    {
+        // no `or_else`: its closure would write the line, and a proof knows nothing of what a closure writes
+        match self.decode_word(line) {
             Ok(finding) => Ok(finding),
-            Err(_) => self.rebuild_line(address, line),
+            Err(_) => self.rebuild_line(line),
         }
     }
 
     // The line of an address, rebuilt from its group.
-    fn rebuild_line(&self, address: usize, line: &mut [u8; 64]) -> Result<Finding, Refusal>
-        requires in_range { address / 64 < (S.Stack.means self.now.stack).size }
-        ensures rebuilds { rebuilding (state S.Stack self.now) address ≡ obtained_by result line.new }
+    fn rebuild_line(&self, line: &mut Line) -> Result<Finding, Refusal>
+        ensures rebuilds { rebuilding (state S.Stack self.now.board.now) self.now.address ≡ obtained_by result line.new }
     {
-        self.sum_group(address, line)?;
-        match self.judge_word(address, line) {
-            Ok(finding) => Ok(finding),
-            Err(_) => Err(Refusal::RebuildFailed { address }),
-        }
+        let address = self.address;
+        self.sum_group(line)?;
+        self.judge_word(line)
+            .map_err(|_| Refusal::RebuildFailed { address })
     }
 
     // The line of an address as its group has it: the shown parity line with the partners' lines.
-    fn sum_group(&self, address: usize, line: &mut [u8; 64]) -> Result<(), Refusal>
-        requires in_range { address / 64 < (S.Stack.means self.now.stack).size }
-        ensures sums_or_refuses { SumsGroup (state S.Stack self.now) address result line.new }
+    fn sum_group(&self, line: &mut Line) -> Result<(), Refusal>
+        ensures sums_or_refuses { SumsGroup (state S.Stack self.now.board.now) self.now.address result line.new }
     {
-        let bank = self.marks.parity_bank(address % 64);
-        let _ = self.stack.fetch(bank, address / 64, 0, line);
-        self.add_partners(address, line)
+        let bank = self.board.marks.parity_bank(self.address % 64);
+        let at = Place {
+            bank,
+            index: self.address / 64,
+            byte: 0,
+        };
+        let _ = self.board.stack.fetch(at, line);
+        self.add_partners(line)
     }
 
     // XORs the partners' lines into a sum, each as its own word is decoded.
-    fn add_partners(&self, address: usize, sum: &mut [u8; 64]) -> Result<(), Refusal>
-        requires in_range { address / 64 < (S.Stack.means self.now.stack).size }
-        ensures sums_or_refuses { Sums (state S.Stack self.now) address result sum.old sum.new }
+    fn add_partners(&self, sum: &mut Line) -> Result<(), Refusal>
+        ensures sums_or_refuses { Sums (state S.Stack self.now.board.now) self.now.address result sum.old sum.new }
     {
-        let b = address % 64;
-        let i = address / 64;
-        let (lo, count) = self.marks.group(b);
+        let address = self.address;
         let mut line = [0u8; 64];
-        for n in 0..count {
-            let x = lo + n;
-            if x != b {
-                let partner = 64 * i + x;
-                match self.decode_word(partner, &mut line) {
-                    Ok(_) => xor_into(sum, &line),
-                    Err(_) => return Err(Refusal::PartnerUncorrectable { address, partner }),
-                }
+        for bank in self.board.marks.group(address % 64) {
+            let partner = 64 * (address / 64) + bank;
+            if partner != address {
+                let site = Site {
+                    board: self.board,
+                    address: partner,
+                };
+                site.decode_word(&mut line)
+                    .map_err(|_| Refusal::PartnerUncorrectable { address, partner })?;
+                xor_into(sum, &line);
             }
         }
         Ok(())
     }
 
     // Judges the word that a rebuilt line makes with the shown check of its address; the line is corrected in place.
-    fn judge_word(&self, address: usize, line: &mut [u8; 64]) -> Result<Finding, Uncorrectable>
-        requires in_range { address / 64 < (S.Stack.means self.now.stack).size }
-        ensures judges { judging (line.old ++ shown_check S.Stack self.now address) ≡ told result line.new }
+    fn judge_word(&self, line: &mut Line) -> Result<Finding, Uncorrectable>
+        ensures judges { judging (line.old ++ shown_check S.Stack self.now.board.now self.now.address) ≡ told result line.new }
     {
-        let check = self.fetch_check(address);
+        let check = self.fetch_check();
         let word = Word { line: *line, check };
         judge(&word, line)
     }
 
     // Decodes the word of an address; an uncorrectable one leaves the line's buffer.
-    fn decode_word(&self, address: usize, line: &mut [u8; 64]) -> Result<Finding, Uncorrectable>
-        requires in_range { address / 64 < (S.Stack.means self.now.stack).size }
-        ensures decodes { decoded (state S.Stack self.now) address ≡ told result line.new }
+    fn decode_word(&self, line: &mut Line) -> Result<Finding, Uncorrectable>
+        ensures decodes { decoded (state S.Stack self.now.board.now) self.now.address ≡ told result line.new }
         ensures a_refusal_leaves_the_line { Kept result line.old line.new }
     {
-        let word = self.fetch_word(address);
+        let word = self.fetch_word();
         decode(&word, line)
     }
 
     // The shown word of an address.
-    fn fetch_word(&self, address: usize) -> Word
-        requires in_range { address / 64 < (S.Stack.means self.now.stack).size }
-        ensures is_shown { symbols result ≡ shown_line S.Stack self.now address ++ shown_check S.Stack self.now address }
+    fn fetch_word(&self) -> Word
+        ensures is_shown { symbols result ≡ shown_line S.Stack self.now.board.now self.now.address ++ shown_check S.Stack self.now.board.now self.now.address }
     {
-        let bank = self.marks.line_bank(address % 64);
+        let bank = self.board.marks.line_bank(self.address % 64);
+        let at = Place {
+            bank,
+            index: self.address / 64,
+            byte: 0,
+        };
         let mut line = [0u8; 64];
-        let _ = self.stack.fetch(bank, address / 64, 0, &mut line);
-        let check = self.fetch_check(address);
+        let _ = self.board.stack.fetch(at, &mut line);
+        let check = self.fetch_check();
         Word { line, check }
     }
 
     // The shown check of an address.
-    fn fetch_check(&self, address: usize) -> Check
-        requires in_range { address / 64 < (S.Stack.means self.now.stack).size }
-        ensures is_shown { check_of result ≡ shown_check S.Stack self.now address }
+    fn fetch_check(&self) -> Check
+        ensures is_shown { check_of result ≡ shown_check S.Stack self.now.board.now self.now.address }
     {
-        let b = address % 64;
-        let i = address / 64;
-        if self.marks.short() {
-            let mut check = [0u8; 5];
-            let _ = self
-                .stack
-                .fetch(64 + b / 16, i, 4 * (b % 16), &mut check[0..4]);
-            let _ = self.stack.fetch(68, i, b, &mut check[4..5]);
-            Check::Short(check)
+        let b = self.address % 64;
+        let index = self.address / 64;
+        if self.board.marks.short() {
+            let fifth = Place {
+                bank: 68,
+                index,
+                byte: b,
+            };
+            Check::Short(self.fetch_symbols(fifth))
         } else {
-            let mut check = [0u8; 6];
-            let _ = self
-                .stack
-                .fetch(64 + b / 16, i, 4 * (b % 16), &mut check[0..4]);
-            let _ = self
-                .stack
-                .fetch(68 + b / 32, i, 2 * (b % 32), &mut check[4..6]);
-            Check::Full(check)
+            let second = Place {
+                bank: 68 + b / 32,
+                index,
+                byte: 2 * (b % 32),
+            };
+            Check::Full(self.fetch_symbols(second))
         }
+    }
+
+    // The shown first check of an address, and after it what is shown from a place on.
+    fn fetch_symbols<const N: usize>(&self, rest: Place) -> [u8; N]
+        requires lies { Fits (S.Stack.means self.now.board.now.stack).size rest.bank rest.index rest.byte (N - 4) }
+        ensures are_shown { result ≡ first_then S.Stack self.now.board.now self.now.address rest.bank rest.index rest.byte (N - 4) }
+    {
+        let b = self.address % 64;
+        let first = Place {
+            bank: 64 + b / 16,
+            index: self.address / 64,
+            byte: 4 * (b % 16),
+        };
+        let mut check = [0u8; N];
+        let symbols = &mut check[..];
+        let _ = self.board.stack.fetch(first, &mut symbols[..4]);
+        let _ = self.board.stack.fetch(rest, &mut symbols[4..]);
+        check
     }
 }
 
 impl Marks {
+    // The banks of the group of b.
+    fn group(&self, b: usize) -> Range<usize>
+        requires real_line { b < 64 }
+        ensures starts { result.start ≡ group_start (listed self.now) b }
+        ensures ends { result.end ≡ group_start (listed self.now) b + group_count (listed self.now) }
+    {
+        match *self {
+            Marks::Zero if b < 32 => 0..32,
+            Marks::Zero => 32..64,
+            _ => 0..64,
+        }
+    }
+
+    // What a bank holds.
+    #[tactic(auto, unfolding(rules::specs::Places::role))]
+    fn role(&self, bank: usize) -> Role
+        requires real_bank { bank < 72 }
+        ensures is_its_role { result ≡ role_in (listed self.now) bank }
+        ensures is_real { IsReal result }
+    {
+        match (*self, bank) {
+            (Marks::One(m), _) if bank == m.number => Role::Retired,
+            (Marks::Two(m, n), _) if bank == m.number || bank == n.number => Role::Retired,
+            (Marks::One(m) | Marks::Two(m, _), 71) => Role::Line(m.number),
+            (Marks::Two(_, n), 69) => Role::Line(n.number),
+            (Marks::Two(_, _), 68) => Role::Fifth,
+            _ => unmarked(bank),
+        }
+    }
+
     // Whether a bank holds lines, checks or the parity of the group of b.
+    #[tactic(auto, unfolding(rules::specs::Places::role))]
     fn holds(&self, b: usize, bank: usize) -> bool
         requires real_bank { bank < 72 }
         ensures tells_whether_it_holds { result ≡ holds_of_group (listed self.now) b bank }
     {
         match *self {
             Marks::Zero => {
-                let g = b / 32;
-                if bank < 64 {
-                    bank / 32 == g
-                } else if bank < 68 {
-                    16 * (bank - 64) / 32 == g
-                } else if bank < 70 {
-                    bank - 68 == g
-                } else {
-                    bank - 70 == g
-                }
+                let group = match bank {
+                    0..=63 => bank / 32,
+                    64..=67 => 16 * (bank - 64) / 32,
+                    68..=69 => bank - 68,
+                    _ => bank - 70,
+                };
+                group == b / 32
             }
             Marks::One(m) => bank != m.number,
             Marks::Two(m, n) => bank != m.number && bank != n.number,
         }
+    }
+}
+
+// What a bank holds where none is marked.
+fn unmarked(bank: usize) -> Role
+    requires real_bank { bank < 72 }
+    ensures is_unmarked_role { result ≡ unmarked_role bank }
+    ensures is_real { IsReal result }
+{
+    match bank {
+        0..=63 => Role::Line(bank),
+        64..=67 => Role::First(bank - 64),
+        68..=69 => Role::Second(bank - 68),
+        _ => Role::Parity(bank - 70),
     }
 }

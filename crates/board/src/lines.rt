@@ -1,5 +1,5 @@
 // Lines and buffers, byte by byte.
-ghost use Rattle.std.specs.Prelude.{◌≡◌, ℕ, ◌<◌, ◌≤◌, length, replicate, bit_xor, slice_index};
+ghost use Rattle.std.specs.Prelude.{◌≡◌, ℕ, ◌<◌, ◌≤◌, bit_xor, slice_index};
 ghost use Rattle.codec.specs.Word.{distance};
 
 use codec::word::Line;
@@ -8,8 +8,9 @@ use codec::word::Line;
 pub(crate) fn xor_into(sum: &mut Line, line: &Line)
     ensures adds { (k : ℕ) → k < 64 → slice_index sum.new k ≡ bit_xor (slice_index sum.old k) (slice_index line.now k) }
 {
-    for i in 0..64 {
-        sum[i] ^= line[i];
+    // no `zip` over `iter_mut`: a proof knows nothing then of what it wrote
+    for (k, byte) in sum.iter_mut().enumerate() {
+        *byte ^= line[k];
     }
 }
 
@@ -21,18 +22,5 @@ pub(crate) fn differing(a: &Line, b: &Line) -> usize
     if a == b {
         return 0;
     }
-    let mut n = 0;
-    for i in 0..64 {
-        if a[i] != b[i] {
-            n += 1;
-        }
-    }
-    n
-}
-
-// Zeros in a buffer.
-pub(crate) fn zero(buffer: &mut [u8])
-    ensures zeros { buffer.new ≡ replicate (length buffer.old) 0 }
-{
-    buffer.fill(0);
+    a.iter().zip(b).filter(|(x, y)| **x != **y).count()
 }

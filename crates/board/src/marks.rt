@@ -1,12 +1,11 @@
 // The banks retired so far, and where lines, checks and parity lie then.
 ghost use Rattle.std.specs.Prelude.{◌≡◌};
-ghost use Rattle.rules.specs.Places.{line_bank, group_start, group_count, parity_bank, short as short_words, role as role_in, unmarked_role};
+ghost use Rattle.rules.specs.Places.{line_bank, parity_bank, short as short_words};
 ghost use Rattle.rules.specs.Rules.{spare_of};
 ghost use Rattle.rules.specs.Work.{lower as lower_of};
 ghost use Rattle.board.specs.Marks.{listed, Adds, Grows};
 
 use super::bank::Bank;
-use rules::roles::Role;
 use stack::refusal::Refusal;
 
 // The marked banks, in the order in which they were marked.
@@ -23,28 +22,9 @@ impl Marks {
         ensures is_line_bank { result ≡ line_bank (listed self.now) b }
     {
         match *self {
-            Marks::Zero => b,
-            Marks::One(m) => { if b == m.number { 71 } else { b } }
-            Marks::Two(m, n) => {
-                if b == m.number {
-                    71
-                } else if b == n.number {
-                    69
-                } else {
-                    b
-                }
-            }
-        }
-    }
-
-    // The first bank of the group of b, and how many banks the group has.
-    pub(crate) fn group(&self, b: usize) -> (usize, usize)
-        ensures starts { result.0 ≡ group_start (listed self.now) b }
-        ensures counts { result.1 ≡ group_count (listed self.now) }
-    {
-        match *self {
-            Marks::Zero => (32 * (b / 32), 32),
-            _ => (0, 64),
+            Marks::One(m) | Marks::Two(m, _) if b == m.number => 71,
+            Marks::Two(_, n) if b == n.number => 69,
+            _ => b,
         }
     }
 
@@ -62,41 +42,7 @@ impl Marks {
     pub(crate) fn short(&self) -> bool
         ensures is_short { result ≡ short_words (listed self.now) }
     {
-        match *self {
-            Marks::Two(_, _) => true,
-            _ => false,
-        }
-    }
-
-    // What a bank holds.
-    pub(crate) fn role(&self, bank: usize) -> Role
-        ensures is_its_role { result ≡ role_in (listed self.now) bank }
-    {
-        match *self {
-            Marks::Zero => unmarked(bank),
-            Marks::One(m) => {
-                if bank == m.number {
-                    Role::Retired
-                } else if bank == 71 {
-                    Role::Line(m.number)
-                } else {
-                    unmarked(bank)
-                }
-            }
-            Marks::Two(m, n) => {
-                if bank == m.number || bank == n.number {
-                    Role::Retired
-                } else if bank == 71 {
-                    Role::Line(m.number)
-                } else if bank == 69 {
-                    Role::Line(n.number)
-                } else if bank == 68 {
-                    Role::Fifth
-                } else {
-                    unmarked(bank)
-                }
-            }
-        }
+        matches!(*self, Marks::Two(_, _))
     }
 
     // The marks with one more bank.
@@ -105,20 +51,12 @@ impl Marks {
     {
         match *self {
             Marks::Zero => Ok(Marks::One(bank)),
-            Marks::One(m) => {
-                if bank.number == m.number {
-                    Err(Refusal::BankAlreadyMarked)
-                } else {
-                    Ok(Marks::Two(m, bank))
-                }
-            }
-            Marks::Two(m, n) => {
-                if bank.number == m.number || bank.number == n.number {
-                    Err(Refusal::BankAlreadyMarked)
-                } else {
-                    Err(Refusal::NoSpareLeft)
-                }
-            }
+            Marks::One(m) | Marks::Two(m, _) if bank.number == m.number => Err(
+                Refusal::BankAlreadyMarked,
+            ),
+            Marks::Two(_, n) if bank.number == n.number => Err(Refusal::BankAlreadyMarked),
+            Marks::One(m) => Ok(Marks::Two(m, bank)),
+            Marks::Two(_, _) => Err(Refusal::NoSpareLeft),
         }
     }
 
@@ -126,10 +64,7 @@ impl Marks {
     pub fn with_bank(&self, bank: usize) -> Result<Marks, Refusal>
         ensures adds_or_refuses { Grows self.now bank result }
     {
-        match Bank::new(bank) {
-            Some(bank) => self.with(bank),
-            None => Err(Refusal::BankOutOfRange),
-        }
+        self.with(Bank::try_from(bank)?)
     }
 
     // The bank that the next mark gives the retired bank's lines.
@@ -150,20 +85,5 @@ impl Marks {
             Marks::Zero => 70,
             _ => 68,
         }
-    }
-}
-
-// What a bank holds where none is marked.
-fn unmarked(bank: usize) -> Role
-    ensures is_unmarked_role { result ≡ unmarked_role bank }
-{
-    if bank < 64 {
-        Role::Line(bank)
-    } else if bank < 68 {
-        Role::First(bank - 64)
-    } else if bank < 70 {
-        Role::Second(bank - 68)
-    } else {
-        Role::Parity(bank - 70)
     }
 }

@@ -5,6 +5,7 @@ use layers::fault::{Fault, FaultKind};
 use layers::injector::FaultInjector;
 use stack::flat::bytes::ByteMemory;
 use stack::memory::Stack;
+use stack::place::Place;
 use stack::refusal::Refusal;
 use std::alloc::Global;
 use std::process::Abort;
@@ -16,13 +17,8 @@ mod refusals;
 mod stages;
 
 // A memory of that size, with no fault.
-fn memory(heap: Global, size: usize) -> Result<FaultInjector<ByteMemory>, Fail> {
-    let mut bytes = Vec::new(heap);
-    for _ in 0..size {
-        for _ in 0..4608 {
-            bytes.push(0u8)?;
-        }
-    }
+fn memory(heap: Global, size: u8) -> Result<FaultInjector<ByteMemory>, Fail> {
+    let bytes = vec![in heap; 0u8; 4608 * usize::from(size)]?;
     Ok(FaultInjector::new(ByteMemory::new(bytes)))
 }
 
@@ -67,18 +63,15 @@ fn reads_back<S: Stack>(rt: &impl Abort, board: &Board<S>, count: u8) -> Result<
     Ok(())
 }
 
+// The number of a refusal, or 0.
 fn number<T: Drop>(answer: Result<T, Refusal>) -> u8 {
-    match answer {
-        Ok(_) => 0,
-        Err(refusal) => refusal.number(),
-    }
+    answer.err().map_or(0, |refusal| refusal.number())
 }
 
 // The number of what a read finds.
 fn finding<S: Stack>(board: &Board<S>, address: usize) -> Result<u8, Fail> {
     let mut got = [0; 64];
-    let found = board.read(address, &mut got)?;
-    Ok(found.number())
+    Ok(board.read(address, &mut got)?.number())
 }
 
 // So many bytes from a place on, as they are shown.
@@ -86,9 +79,9 @@ fn shown<S: Stack>(
     stack: &S,
     bank: usize,
     index: usize,
-    from: usize,
+    byte: usize,
     into: &mut [u8],
 ) -> Result<(), Fail> {
-    stack.fetch(bank, index, from, into)?;
+    stack.fetch(Place { bank, index, byte }, into)?;
     Ok(())
 }

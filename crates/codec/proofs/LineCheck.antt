@@ -1,7 +1,9 @@
 -- The check of a line by rows of eight bytes is its check.
-use Rattle.std.proofs.Common.{◌≡◌, ℕ, zero, suc, ◌+◌, ◌-◌, ◌*◌, ◌<◌, ◌≤◌, false, List, [], ◌∷◌, ◌++◌, length, get_or, take, drop, sym, refl, ap, ◌∙◌, subst, zero-mul, arith, lit<, length-drop, length-take, take-add}
+use Rattle.std.proofs.Common.{◌≡◌, ℕ, zero, suc, ◌+◌, ◌-◌, ◌*◌, ◌<◌, ◌≤◌, false, List, [], ◌∷◌, ◌++◌, length, take, drop, sym, refl, ap, ◌∙◌, subst, append_assoc, append-nil, zero-mul, arith, lit<, length-append, length-drop, length-take}
 use lib.Bits.{bit_xor}
-use Rattle.std.proofs.lemmas.List.{get_or-take, get_or-drop}
+use Rattle.std.proofs.lemmas.List.{take-append-drop}
+use Rattle.std.specs.List.{fold}
+use Rattle.std.specs.Simd.{first_chunks}
 use Rattle.field.specs.Field.{mul, pow}
 use Rattle.field.specs.Rows.{lane, advanced}
 use Rattle.field.proofs.Xor.{xor_eq}
@@ -62,52 +64,27 @@ check_by_rows line x h c = laws.only false line (unpacked x) h (unpacked_symbols
 
 -- ---- one more row
 
-eight : (xs : List ℕ) → length xs ≡ 8
-    → xs ≡ get_or xs 0 0 ∷ get_or xs 1 0 ∷ get_or xs 2 0 ∷ get_or xs 3 0 ∷ get_or xs 4 0 ∷ get_or xs 5 0 ∷ get_or xs 6 0 ∷ get_or xs 7 0 ∷ []
-eight [] h = absurd (omega arith)
-eight (a ∷ []) h = absurd (omega arith)
-eight (a ∷ b ∷ []) h = absurd (omega arith)
-eight (a ∷ b ∷ c ∷ []) h = absurd (omega arith)
-eight (a ∷ b ∷ c ∷ d ∷ []) h = absurd (omega arith)
-eight (a ∷ b ∷ c ∷ d ∷ e ∷ []) h = absurd (omega arith)
-eight (a ∷ b ∷ c ∷ d ∷ e ∷ f ∷ []) h = absurd (omega arith)
-eight (a ∷ b ∷ c ∷ d ∷ e ∷ f ∷ g ∷ []) h = absurd (omega arith)
-eight (a ∷ b ∷ c ∷ d ∷ e ∷ f ∷ g ∷ i ∷ []) h = refl
-eight (a ∷ b ∷ c ∷ d ∷ e ∷ f ∷ g ∷ i ∷ j ∷ xs) h = absurd (omega arith)
+row_more : (x : ℕ) (p row : List ℕ) → length row ≡ 8 → length p ≤ 56 → Checks p x → Checks (p ++ row) (advanced x row)
+row_more x p [] h t k = absurd (omega arith)
+row_more x p (a ∷ []) h t k = absurd (omega arith)
+row_more x p (a ∷ b ∷ []) h t k = absurd (omega arith)
+row_more x p (a ∷ b ∷ c ∷ []) h t k = absurd (omega arith)
+row_more x p (a ∷ b ∷ c ∷ d ∷ []) h t k = absurd (omega arith)
+row_more x p (a ∷ b ∷ c ∷ d ∷ e ∷ []) h t k = absurd (omega arith)
+row_more x p (a ∷ b ∷ c ∷ d ∷ e ∷ f ∷ []) h t k = absurd (omega arith)
+row_more x p (a ∷ b ∷ c ∷ d ∷ e ∷ f ∷ g ∷ []) h t k = absurd (omega arith)
+row_more x p (a ∷ b ∷ c ∷ d ∷ e ∷ f ∷ g ∷ i ∷ []) h t k = step_law x a b c d e f g i p t k
+row_more x p (a ∷ b ∷ c ∷ d ∷ e ∷ f ∷ g ∷ i ∷ j ∷ xs) h t k = absurd (omega arith)
 
-module _ (xs : List ℕ) (p : ℕ) (h : p + 8 ≤ length xs) where
-  row_at : (j : ℕ) → j < 8 → get_or (take 8 (drop p xs)) j 0 ≡ get_or xs (p + j) 0
-  row_at j l = get_or-take 8 (drop p xs) j 0 l ∙ get_or-drop p xs j 0
-
-  row_length : length (take 8 (drop p xs)) ≡ 8
-  row_length = simp (length-take, length-drop) (omega arith)
-
-  -- the eight bytes from p on
-  row_is : take 8 (drop p xs)
-      ≡ get_or xs p 0 ∷ get_or xs (p + 1) 0 ∷ get_or xs (p + 2) 0 ∷ get_or xs (p + 3) 0 ∷ get_or xs (p + 4) 0 ∷ get_or xs (p + 5) 0 ∷ get_or xs (p + 6) 0 ∷ get_or xs (p + 7) 0 ∷ []
-  row_is =
-      let z : p + 0 ≡ p = omega arith in
-      let e0 : get_or (take 8 (drop p xs)) 0 0 ≡ get_or xs p 0 = row_at 0 (lit< tt) ∙ ap (λ n. get_or xs n 0) z in
-      let e1 = row_at 1 (lit< tt) in
-      let e2 = row_at 2 (lit< tt) in
-      let e3 = row_at 3 (lit< tt) in
-      let e4 = row_at 4 (lit< tt) in
-      let e5 = row_at 5 (lit< tt) in
-      let e6 = row_at 6 (lit< tt) in
-      let e7 = row_at 7 (lit< tt) in
-      let e = eight (take 8 (drop p xs)) row_length in
-      cc
-
-  pub row_more : (x : ℕ) → p ≤ 56 → Checks (take p xs) x
-      → Checks (take (p + 8) xs)
-      (advanced x
-      (get_or xs p 0 ∷ get_or xs (p + 1) 0 ∷ get_or xs (p + 2) 0 ∷ get_or xs (p + 3) 0 ∷ get_or xs (p + 4) 0 ∷ get_or xs (p + 5) 0 ∷ get_or xs (p + 6) 0 ∷ get_or xs (p + 7) 0 ∷ []))
-  row_more x l c =
-      let r : ℕ =
-      advanced x
-      (get_or xs p 0 ∷ get_or xs (p + 1) 0 ∷ get_or xs (p + 2) 0 ∷ get_or xs (p + 3) 0 ∷ get_or xs (p + 4) 0 ∷ get_or xs (p + 5) 0 ∷ get_or xs (p + 6) 0 ∷ get_or xs (p + 7) 0 ∷ []) in
-      let t : length (take p xs) ≤ 56 = simp length-take (omega arith) in
-      let e : take (p + 8) xs
-      ≡ take p xs ++ get_or xs p 0 ∷ get_or xs (p + 1) 0 ∷ get_or xs (p + 2) 0 ∷ get_or xs (p + 3) 0 ∷ get_or xs (p + 4) 0 ∷ get_or xs (p + 5) 0 ∷ get_or xs (p + 6) 0 ∷ get_or xs (p + 7) 0 ∷ [] =
-      take-add p 8 xs ∙ ap (λ ys. take p xs ++ ys) row_is in
-      subst (λ ys. Checks ys r) (sym e) (step_law x _ _ _ _ _ _ _ _ (take p xs) t c)
+-- and n more
+pub rows_more : (n x : ℕ) (p xs : List ℕ) → length xs ≡ 8 * n → length p + length xs ≤ 64 → Checks p x
+    → Checks (p ++ xs) (fold advanced x (first_chunks 8 n xs))
+rows_more zero x p [] l t k = subst (λ ys. Checks ys x) (sym (append-nil p)) k
+rows_more zero x p (y ∷ xs) l t k = absurd (omega arith)
+rows_more (suc n) x p xs l t k =
+    let r : length (take 8 xs) ≡ 8 = simp length-take (omega arith) in
+    let d : length (drop 8 xs) ≡ 8 * n = simp length-drop (omega arith) in
+    let q : length (p ++ take 8 xs) ≡ length p + 8 = omega (arith, length-append p (take 8 xs)) in
+    subst (λ ys. Checks ys (fold advanced (advanced x (take 8 xs)) (first_chunks 8 n (drop 8 xs))))
+    (append_assoc p (take 8 xs) (drop 8 xs) ∙ ap (λ ys. p ++ ys) (take-append-drop 8 xs))
+    (rows_more n (advanced x (take 8 xs)) (p ++ take 8 xs) (drop 8 xs) d (omega arith) (row_more x p (take 8 xs) r (omega arith) k))

@@ -1,30 +1,35 @@
 -- The two tests of a word by its line's check.
-use Rattle.std.proofs.Common.{◌≡◌, ℕ, zero, suc, ◌+◌, ◌<◌, ◌≤◌, Bool, true, false, List, [], ◌∷◌, ◌++◌, length, get_or, take, drop, is_err, Ok, Err, Option, Result, sym, refl, ap, ◌∙◌, subst, ap₂, ⊎_elim, arith, length-append, length-take, take_at, drop_at}
+use Rattle.std.proofs.Common.{◌≡◌, ℕ, suc, ◌+◌, ◌<◌, ◌≤◌, Decides, Bool, true, false, cond, List, ◌++◌, length, get_or, take, drop, is_err, Some, None, Ok, Err, Option, Result, MatchOption, sym, refl, ap, ◌∙◌, subst, ap₂, ⊎_elim, arith, lit≤, length-append, length-take, take_at, drop_at}
 use lib.Seq.{take-append-add}
 use Rattle.std.proofs.lemmas.List.{take_all}
 use Rattle.codec.specs.declared.word.Finding.{Finding}
 use Rattle.codec.specs.declared.word.Uncorrectable.{Uncorrectable}
 use Rattle.codec.specs.Shown.{told, Kept}
 use Rattle.std.proofs.lemmas.Bool.{cases_lt, cond-true, cond-false, false≢true}
-use Rattle.codec.specs.declared.word.Finding.TheVariants.{Clean, Corrected, Rebuilt, RebuiltCorrected}
 use Rattle.codec.specs.Word.{Bytes, distance, Codeword, Consistent}
 use Rattle.codec.specs.Check.{check}
 use Rattle.codec.specs.Finder.{single_error}
-use Rattle.codec.specs.Code.{found, uncorrectable, line_of, corrected_by, decoding, judging, consistent, codeword, checked, checks, Symbols}
-use Rattle.codec.specs.Packed.{CheckLong}
+use Rattle.codec.specs.Code.{Decoded, found, uncorrectable, line_of, corrected_by, consistent, codeword, checked, checks, Symbols}
+use Rattle.codec.specs.Packed.{Restores}
 use Rattle.codec.proofs.Sums.{bytes_from}
 use Rattle.codec.proofs.WordLaws.{near_first}
 use Rattle.codec.proofs.DecodingLaws.{distance_common, consistent_codeword, consistent_front}
 use Rattle.codec.proofs.CheckLaws.{check_six, check_bytes}
 use Rattle.codec.proofs.CodeLaws.{laws, bytes_append, consistent_sound, consistent_whole, codeword_sound, codeword_whole}
 
--- two tests that pass together are equal
-same_test : (b t : Bool) → (b ≡ true → t ≡ true) → (t ≡ true → b ≡ true) → b ≡ t
-same_test true t f g = sym (f refl)
-same_test false true f g = g refl
-same_test false false f g = refl
+pub five : (short : Bool) → 5 ≤ checks short
+five true = lit≤ tt
+five false = lit≤ tt
 
-module _ (line shown : List ℕ) (hl : Symbols 64 line) (bytes : (k : ℕ) → get_or shown k 0 < 256) (long : CheckLong shown) where
+pub six : (short : Bool) → checks short ≤ 6
+six true = lit≤ tt
+six false = lit≤ tt
+
+-- five symbols are a short word's check, and six a full word's
+pub kind_of : (n : ℕ) → 5 ≤ n → n ≤ 6 → (short : Bool) × (n ≡ checks short)
+kind_of n h k = ⊎_elim (λ (l : n < 6). (true, omega arith)) (λ (l : 6 ≤ n). (false, omega arith)) (cases_lt n 6)
+
+module _ (line shown : List ℕ) (hl : Symbols 64 line) (bytes : (k : ℕ) → get_or shown k 0 < 256) (short : Bool) (long : length shown ≡ checks short) where
   w : List ℕ
   w = line ++ shown
 
@@ -33,7 +38,7 @@ module _ (line shown : List ℕ) (hl : Symbols 64 line) (bytes : (k : ℕ) → g
 
   long_w : 69 ≤ length w
   unfolding w
-  long_w = let a = hl.count in let b = long.0 in omega (arith, length-append line shown)
+  long_w = let a = hl.count in omega (arith, length-append line shown, five short)
 
   long_v : 69 ≤ length v
   unfolding v
@@ -70,59 +75,44 @@ module _ (line shown : List ℕ) (hl : Symbols 64 line) (bytes : (k : ℕ) → g
       sym (drop_at line (take 4 shown) 64 hl.count) ∙ ap (drop 64) (sym (front shown) ∙ same ∙ front (check line)) ∙ drop_at line (take 4 (check line)) 64 hl.count
 
   -- a word is consistent where its first check is its line's
-  pub consistent_test : (b : Bool) → (b ≡ true → take 4 shown ≡ take 4 (check line)) → (take 4 shown ≡ take 4 (check line) → b ≡ true)
-      → b ≡ consistent (line ++ shown)
+  pub consistent_test : Decides (consistent (line ++ shown)) (take 4 (check line) ≡ take 4 shown)
   unfolding w
-  consistent_test b sound whole =
-      same_test b (consistent (line ++ shown)) (λ t. consistent_whole (line ++ shown) (from_first (sound t))) (λ t. whole (to_first (consistent_sound (line ++ shown) t)))
+  consistent_test =
+      (λ t. sym (to_first (consistent_sound (line ++ shown) t)), λ e. consistent_whole (line ++ shown) (from_first (sym e)))
 
-  shown_all : take (length shown) shown ≡ shown
-  shown_all = take_all (length shown) shown (omega arith)
+  first_of : (s : Bool) → take (checks s) (check line) ≡ checked s line
+  first_of true = refl
+  first_of false = take_all 6 (check line) (omega (arith, check_six line))
 
-  check_all : (short : Bool) → (n : ℕ) → n ≡ checks short → take n (check line) ≡ checked short line
-  check_all true n e = ap (λ m. take m (check line)) e
-  check_all false n e = ap (λ m. take m (check line)) e ∙ take_all 6 (check line) (omega (arith, check_six line))
+  check_all : take (length shown) (check line) ≡ checked short line
+  check_all = ap (λ n. take n (check line)) long ∙ first_of short
 
   -- and a codeword where its check is its line's
-  codeword_by : (short : Bool) → length shown ≡ checks short
-      → (b : Bool) → (b ≡ true → take (length shown) shown ≡ take (length shown) (check line))
-      → (take (length shown) shown ≡ take (length shown) (check line) → b ≡ true) → b ≡ codeword (line ++ shown)
-  codeword_by short n b sound whole =
-      let c : take (length shown) (check line) ≡ checked short line = check_all short (length shown) n in
-      same_test b (codeword (line ++ shown))
-      (λ t. codeword_whole (line ++ shown) (subst (λ xs. Codeword (line ++ xs)) (sym (sym shown_all ∙ sound t ∙ c)) (laws.fits short line hl)))
-      (λ t. whole (shown_all ∙ laws.only short line shown hl (record { count = n; small = bytes }) (codeword_sound (line ++ shown) t) ∙ sym c))
-
-  pub codeword_test : (b : Bool) → (b ≡ true → take (length shown) shown ≡ take (length shown) (check line))
-      → (take (length shown) shown ≡ take (length shown) (check line) → b ≡ true) → b ≡ codeword (line ++ shown)
+  pub codeword_test : Decides (codeword (line ++ shown)) (take (length shown) (check line) ≡ take (length shown) shown)
   codeword_test =
-      ⊎_elim (λ (l : length shown < 6). codeword_by true (let f = long.0 in omega arith)) (λ (l : 6 ≤ length shown). codeword_by false (let f = long.1 in omega arith))
-      (cases_lt (length shown) 6)
+      let all : take (length shown) shown ≡ shown = take_all (length shown) shown (omega arith) in (
+        λ t. check_all ∙ sym (all ∙ laws.only short line shown hl (record { count = long; small = bytes }) (codeword_sound (line ++ shown) t)),
+        λ e. codeword_whole (line ++ shown) (subst (λ xs. Codeword (line ++ xs)) (sym check_all ∙ e ∙ all) (laws.fits short line hl)),
+      )
 
 -- ---- what the tests decide
 
-pub decoding_clean : (w : List ℕ) → consistent w ≡ true → decoding w ≡ found (line_of w) Clean
-unfolding decoding
-decoding_clean w t = cond-true (consistent w) (found (line_of w) Clean) (corrected_by Corrected w (single_error w)) t
+module _ (w : List ℕ) (whole : Finding) (how : ℕ × ℕ → Finding) (t : Bool) where
+  abbrev gives : Decoded
+  gives = cond t (found (line_of w) whole) (corrected_by how w (single_error w))
 
-pub decoding_by : (w : List ℕ) (o : Option (ℕ × ℕ)) → consistent w ≡ false → single_error w ≡ o → decoding w ≡ corrected_by Corrected w o
-unfolding decoding
-decoding_by w o t e = cond-false (consistent w) (found (line_of w) Clean) (corrected_by Corrected w (single_error w)) t ∙ ap (corrected_by Corrected w) e
+  -- a word that was restored gives its line and the finding by that name
+  pub restored : (o : Option (ℕ × ℕ)) (f : Finding) (before after : List ℕ) → Restores t w (Ok o) before after
+      → MatchOption o (f ≡ whole) (λ p. f ≡ how p) → found after f ≡ gives
+  restored None f before after r m =
+      ap₂ found r.1 m ∙ sym (cond-true t (found (line_of w) whole) (corrected_by how w (single_error w)) r.0)
+  restored (Some p) f before after r m =
+      ap₂ found r.2 m ∙ sym (ap (corrected_by how w) r.1) ∙ sym (cond-false t (found (line_of w) whole) (corrected_by how w (single_error w)) r.0)
 
-pub judging_whole : (w : List ℕ) → codeword w ≡ true → judging w ≡ found (line_of w) Rebuilt
-unfolding judging
-judging_whole w t = cond-true (codeword w) (found (line_of w) Rebuilt) (corrected_by RebuiltCorrected w (single_error w)) t
-
-pub judging_by : (w : List ℕ) (o : Option (ℕ × ℕ)) → codeword w ≡ false → single_error w ≡ o → judging w ≡ corrected_by RebuiltCorrected w o
-unfolding judging
-judging_by w o t e = cond-false (codeword w) (found (line_of w) Rebuilt) (corrected_by RebuiltCorrected w (single_error w)) t ∙ ap (corrected_by RebuiltCorrected w) e
-
--- lists that agree below n have the same first n
-pub take_same : (n : ℕ) (xs ys : List ℕ) → n ≤ length xs → n ≤ length ys → ((k : ℕ) → k < n → get_or xs k 0 ≡ get_or ys k 0) → take n xs ≡ take n ys
-take_same zero xs ys l m h = refl
-take_same (suc n) [] ys l m h = absurd (omega arith)
-take_same (suc n) (x ∷ xs) [] l m h = absurd (omega arith)
-take_same (suc n) (x ∷ xs) (y ∷ ys) l m h = ap₂ ◌∷◌ (h 0 (omega arith)) (take_same n xs ys (omega arith) (omega arith) (λ k a. h (suc k) (omega arith)))
+  -- and one that was not gives nothing
+  pub not_restored : (e : Uncorrectable) (before after : List ℕ) → Restores t w (Err e) before after → uncorrectable ≡ gives
+  not_restored e before after r =
+      sym (ap (corrected_by how w) r.1) ∙ sym (cond-false t (found (line_of w) whole) (corrected_by how w (single_error w)) r.0)
 
 -- ---- the exit by `?`
 

@@ -1,9 +1,9 @@
 // The code for lines: their check, decoding a shown word, judging a rebuilt one.
-ghost use Rattle.std.specs.Prelude.{◌≡◌, ℕ, ◌≤◌, true, false, List, ◌++◌, length, take, MatchResult};
+ghost use Rattle.std.specs.Prelude.{◌≡◌, ℕ, ◌≤◌, List, ◌++◌, length, take};
 ghost use Rattle.codec.specs.Check.{check as check_for};
-ghost use Rattle.codec.specs.Code.{decoding, judging, consistent as consistent_of, codeword as codeword_of, Symbols};
-ghost use Rattle.codec.specs.Packed.{unpacked, CheckLong, CorrectsLine};
-ghost use Rattle.codec.specs.Shown.{symbols as symbols_of, told, Kept};
+ghost use Rattle.codec.specs.Code.{decoding, judging, consistent, codeword, checks, Symbols};
+ghost use Rattle.codec.specs.Packed.{unpacked, RestoresBy};
+ghost use Rattle.codec.specs.Shown.{symbols as symbols_of, is_short, told, Kept};
 ghost use Rattle.codec.specs.Word.{Codeword};
 
 use crate::finder::single_error;
@@ -14,22 +14,8 @@ use field::rows::advance;
 fn packed_check(line: &Line) -> u64
     ensures has_the_check_in_its_bytes { unpacked result ≡ check_for line.now }
 {
-    let mut check = 0;
-    for i in 0..8 {
-        let p = 8 * i;
-        let row = [
-            line[p],
-            line[p + 1],
-            line[p + 2],
-            line[p + 3],
-            line[p + 4],
-            line[p + 5],
-            line[p + 6],
-            line[p + 7],
-        ];
-        check = advance(check, &row);
-    }
-    check
+    let (rows, _) = line.as_chunks();
+    rows.iter().fold(0, |check, row| advance(check, row))
 }
 
 // The six check symbols of a line; a short word takes the first five.
@@ -40,75 +26,54 @@ pub fn check_of(line: &Line) -> FullCheck
     ensures no_other_does_in_full { (c : List ℕ) → Symbols 6 c → Codeword (line.now ++ c) → c ≡ result }
     ensures no_other_does_in_short { (c : List ℕ) → Symbols 5 c → Codeword (line.now ++ c) → c ≡ take 5 result }
 {
-    let c = packed_check(line).to_le_bytes();
-    [c[0], c[1], c[2], c[3], c[4], c[5]]
+    let [a, b, c, d, e, f, _, _] = packed_check(line).to_le_bytes();
+    [a, b, c, d, e, f]
 }
 
 // Whether the first `count` symbols of a shown check are those of the line's check.
-fn agrees(check: &FullCheck, shown: &[u8], count: usize) -> bool
-    requires six_at_most { count ≤ 6 }
+fn agrees(line: &Line, shown: &[u8], count: usize) -> bool
+    requires at_least_five { 5 ≤ length shown.now }
+    requires at_most_six { length shown.now ≤ 6 }
     requires as_many_shown { count ≤ length shown.now }
-    ensures sound { result ≡ true → take count shown.now ≡ take count check.now }
-    ensures whole { take count shown.now ≡ take count check.now → result ≡ true }
+    ensures four_tell_whether_the_word_is_consistent { count ≡ 4 → result ≡ consistent (line.now ++ shown.now) }
+    ensures all_tell_whether_it_is_a_codeword { count ≡ length shown.now → result ≡ codeword (line.now ++ shown.now) }
 {
-    for i in 0..count {
-        if check[i] != shown[i] {
-            return false;
-        }
+    check_of(line).starts_with(&shown[..count])
+}
+
+// Hands out the line of a word whose first `count` check symbols are those of its line; otherwise that of the codeword that
+// differs from the word in one symbol, if there is one, with the pair.
+fn restore(word: &Word, count: usize, line: &mut Line) -> Result<Option<(usize, u8)>, Uncorrectable>
+    requires as_many_as_it_has { count ≤ checks (is_short word.now.check) }
+    ensures by_four_corrects_inconsistent_words { count ≡ 4 → RestoresBy consistent word.now result line.old line.new }
+    ensures by_all_corrects_all_but_codewords { count ≡ checks (is_short word.now.check) → RestoresBy codeword word.now result line.old line.new }
+{
+    if agrees(&word.line, word.check.symbols(), count) {
+        *line = word.line;
+        return Ok(None);
     }
-    true
-}
-
-// Whether S_1 to S_4 of a word are zero: whether its first check is that of its line.
-fn is_consistent(line: &Line, shown: &[u8]) -> bool
-    requires a_check { CheckLong shown.now }
-    ensures is_the_test { result ≡ consistent_of (line.now ++ shown.now) }
-{
-    agrees(&check_of(line), shown, 4)
-}
-
-// Whether a word is a codeword: whether its check is that of its line.
-fn is_codeword(line: &Line, shown: &[u8]) -> bool
-    requires a_check { CheckLong shown.now }
-    ensures is_the_test { result ≡ codeword_of (line.now ++ shown.now) }
-{
-    agrees(&check_of(line), shown, shown.len())
-}
-
-// Hands out the line of the codeword that differs from a word in one symbol, if there is one, with the pair.
-fn correct(word: &Word, line: &mut Line) -> Result<(usize, u8), Uncorrectable>
-    ensures applies_the_pair { CorrectsLine (symbols_of word.now) result line.old line.new }
-{
     let (s, e) = single_error(word).ok_or(Uncorrectable)?;
     *line = word.line;
-    if s < 64 {
+    if s < line.len() {
         line[s] ^= e;
     }
-    Ok((s, e))
+    Ok(Some((s, e)))
 }
 
-// Decodes a shown word by its own means: hands out its line, corrected where one symbol is wrong.
+// Decodes a shown word by its own means: hands out its line, corrected where one symbol is wrong. Its first check decides.
 pub fn decode(word: &Word, line: &mut Line) -> Result<Finding, Uncorrectable>
     ensures is_the_decoding { told result line.new ≡ decoding (symbols_of word.now) }
     ensures an_uncorrectable_word_leaves_the_line { Kept result line.old line.new }
 {
-    if is_consistent(&word.line, word.check.symbols()) {
-        *line = word.line;
-        return Ok(Finding::Clean);
-    }
-    let pair = correct(word, line)?;
-    Ok(Finding::Corrected(pair))
+    let pair = restore(word, 4, line)?;
+    Ok(pair.map_or(Finding::Clean, Finding::Corrected))
 }
 
-// Judges a rebuilt word: hands out the line of a codeword, corrected where one symbol is wrong.
+// Judges a rebuilt word: hands out the line of a codeword, corrected where one symbol is wrong. Its whole check decides.
 pub fn judge(word: &Word, line: &mut Line) -> Result<Finding, Uncorrectable>
     ensures is_the_judgement { told result line.new ≡ judging (symbols_of word.now) }
     ensures an_uncorrectable_word_leaves_the_line { Kept result line.old line.new }
 {
-    if is_codeword(&word.line, word.check.symbols()) {
-        *line = word.line;
-        return Ok(Finding::Rebuilt);
-    }
-    let pair = correct(word, line)?;
-    Ok(Finding::RebuiltCorrected(pair))
+    let pair = restore(word, word.check.symbols().len(), line)?;
+    Ok(pair.map_or(Finding::Rebuilt, Finding::RebuiltCorrected))
 }

@@ -1,5 +1,5 @@
 // The sums of a word, and the one wrong symbol that explains them.
-ghost use Rattle.std.specs.Prelude.{◌≡◌, ℕ, ◌<◌, ◌≤◌, true, ◌≢◌, length, take, slice_index};
+ghost use Rattle.std.specs.Prelude.{◌≡◌, ℕ, ◌<◌, ◌≤◌, true, ◌≢◌, length, slice_index};
 ghost use Rattle.field.specs.Field.{mul};
 ghost use Rattle.codec.specs.Finder.{single_error};
 ghost use Rattle.codec.specs.Shown.{symbols as symbols_of};
@@ -7,6 +7,7 @@ ghost use Rattle.codec.specs.Word.{coeff, sums as sums_of, Found, PointsAt};
 
 use crate::word::Word;
 use field::arithmetic::{Terms, log, progression};
+use std::array;
 
 // the number of the last symbol of a full word, which a short one lacks
 const LAST: usize = 69;
@@ -30,14 +31,7 @@ pub fn syndromes(symbols: &[u8]) -> Terms
     let mut sums = [0; 6];
     for (s, symbol) in symbols.iter().enumerate() {
         let t = terms(s, *symbol);
-        sums = [
-            sums[0] ^ t[0],
-            sums[1] ^ t[1],
-            sums[2] ^ t[2],
-            sums[3] ^ t[3],
-            sums[4] ^ t[4],
-            sums[5] ^ t[5],
-        ];
+        sums = array::from_fn(|k| sums[k] ^ t[k]);
     }
     sums
 }
@@ -48,13 +42,7 @@ fn explains(sums: &Terms, count: usize, s: usize, e: u8) -> bool
     ensures sound { result ≡ true → (k : ℕ) → k < count → slice_index sums.now k ≡ mul e (coeff k s) }
     ensures whole { ((k : ℕ) → k < count → slice_index sums.now k ≡ mul e (coeff k s)) → result ≡ true }
 {
-    let t = terms(s, e);
-    for k in 0..count {
-        if sums[k] != t[k] {
-            return false;
-        }
-    }
-    true
+    terms(s, e).starts_with(&sums[..count])
 }
 
 // The symbol that S_0 and S_1 point at: no other can be the only wrong one.
@@ -90,17 +78,17 @@ fn locate(symbols: &[u8]) -> Option<(usize, u8)>
     None
 }
 
-// The symbols of a word in order, and how many they are.
-fn spread(word: &Word, into: &mut [u8; 70]) -> usize
-    ensures at_least_69 { 69 ≤ result }
-    ensures at_most_70 { result ≤ 70 }
-    ensures in_order { take result into.new ≡ symbols_of word.now }
+// The symbols of a word in order, laid out in a buffer.
+fn spread<'a>(word: &Word, buffer: &'a mut [u8; 70]) -> &'a [u8]
+    ensures in_order { result.now ≡ symbols_of word.now }
+    ensures at_least_69 { 69 ≤ length result.now }
+    ensures at_most_70 { length result.now ≤ 70 }
 {
-    into[..64].copy_from_slice(&word.line);
     let check = word.check.symbols();
     let count = 64 + check.len();
-    into[64..count].copy_from_slice(check);
-    count
+    buffer[..64].copy_from_slice(&word.line);
+    buffer[64..count].copy_from_slice(check);
+    &buffer[..count]
 }
 
 // The number of the one wrong symbol of a word and what corrects it.
@@ -108,7 +96,5 @@ pub fn single_error(word: &Word) -> Option<(usize, u8)>
     ensures is_the_single_error { result ≡ single_error (symbols_of word.now) }
     ensures some_exactly_where_one_symbol_makes_a_codeword { Found (symbols_of word.now) result }
 {
-    let mut buffer = [0; 70];
-    let count = spread(word, &mut buffer);
-    locate(&buffer[..count])
+    locate(spread(word, &mut [0; 70]))
 }

@@ -1,7 +1,10 @@
 // Words as they are held, and what is found at them.
-ghost use Rattle.std.specs.Prelude.{◌≡◌, length};
+ghost use Rattle.std.specs.Prelude.{◌≡◌, Some, length, codes};
 ghost use Rattle.codec.specs.Code.{checks};
 ghost use Rattle.codec.specs.Shown.{number_of, check_of, is_short};
+
+use std::error::Error;
+use std::fmt;
 
 // The 64 bytes that a host stores and reads.
 pub type Line = [u8; 64];
@@ -48,7 +51,7 @@ pub enum Finding {
 }
 
 impl Finding {
-    // The finding's number, 0 to 3.
+    // The finding's number, 0 to 3. No `From`: `u8::from(finding)` would not say which number is meant.
     pub fn number(&self) -> u8
         ensures is_the_finding_s_number { result ≡ number_of self.now }
     {
@@ -64,3 +67,13 @@ impl Finding {
 // A word is neither right nor one symbol off.
 #[derive(Clone, Copy, PartialEq, Eq, Debug)]
 pub struct Uncorrectable;
+
+impl fmt::Display for Uncorrectable {
+    ghost output = { λ _. Some (codes "uncorrectable") };
+
+    fn fmt<W: fmt::Write>(&self, f: &mut fmt::Formatter<W>) -> fmt::Result {
+        f.write_str("uncorrectable")
+    }
+}
+
+impl Error for Uncorrectable {}

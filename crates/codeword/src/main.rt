@@ -29,9 +29,7 @@ fn run(rt: &HostRuntime) -> anyhow::Result<()> {
     };
     let mut word = ShownWord::of(&line);
     let check = word.check;
-    let mut number: usize = 1;
-    for change in lines {
-        number = number.saturating_add(1);
+    for (number, change) in (2_usize..).zip(lines) {
         match read_change(change.as_bytes()) {
             Ok((symbol, xor)) => word.change(symbol, xor),
             Err(problem) => println!(rt; "line {number}: {problem}")?,

@@ -15,6 +15,7 @@ pub struct ShownWord {
     pub check: FullCheck,
 }
 
+// Two words are made of it, and a `From` would not say which.
 impl ShownWord {
     // The codeword of a line.
     pub fn of(line: &Line) -> ShownWord

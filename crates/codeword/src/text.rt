@@ -9,7 +9,6 @@ pub struct Hex<'a>(pub &'a [u8]);
 impl fmt::Display for Hex<'_> {
     fn fmt<W: fmt::Write>(&self, f: &mut fmt::Formatter<W>) -> fmt::Result {
         for b in self.0 {
-            let b = *b;
             write!(f, "{b:02X}")?;
         }
         Ok(())
@@ -22,18 +21,22 @@ pub struct Outcome(pub Result<Finding, Uncorrectable>);
 
 impl fmt::Display for Outcome {
     fn fmt<W: fmt::Write>(&self, f: &mut fmt::Formatter<W>) -> fmt::Result {
-        match &self.0 {
-            Ok(Finding::Clean) => write!(f, "clean, finding 0"),
-            Ok(Finding::Corrected((s, x))) => write!(
+        let finding = match &self.0 {
+            Ok(finding) => finding,
+            Err(error) => return write!(f, "{error}"),
+        };
+        let number = finding.number();
+        match finding {
+            Finding::Clean => write!(f, "clean, finding {number}"),
+            Finding::Corrected((s, x)) => write!(
                 f,
-                "corrected, finding 1: symbol {s} by XOR {x:02X}"
+                "corrected, finding {number}: symbol {s} by XOR {x:02X}"
             ),
-            Ok(Finding::Rebuilt) => write!(f, "rebuilt, finding 2"),
-            Ok(Finding::RebuiltCorrected((s, x))) => write!(
+            Finding::Rebuilt => write!(f, "rebuilt, finding {number}"),
+            Finding::RebuiltCorrected((s, x)) => write!(
                 f,
-                "rebuilt and corrected, finding 3: symbol {s} by XOR {x:02X}"
+                "rebuilt and corrected, finding {number}: symbol {s} by XOR {x:02X}"
             ),
-            Err(_) => write!(f, "uncorrectable"),
         }
     }
 }

@@ -1,26 +1,21 @@
 -- Tallies of banks, and the highest of them.
-use Rattle.std.proofs.Common.{◌≡◌, ℕ, zero, suc, ◌+◌, ◌<◌, ◌≤◌, cond, eqb, ltb, List, [], ◌∷◌, ◌++◌, length, get_or, take, Some, None, sym, refl, ap, ◌∙◌, subst, ⊎_elim, add-zero, add_assoc, zero-add, arith}
-use Rattle.std.proofs.lemmas.List.{take_more}
+use Rattle.std.proofs.Common.{◌≡◌, ℕ, zero, suc, ◌+◌, ◌<◌, ◌≤◌, ltb, List, [], ◌∷◌, length, Some, None, Option, Bor, sym, refl, ap, ◌∙◌, subst, ⊎_elim, add-one, add-zero, arith}
+use Rattle.std.proofs.iter.Yields.{nat_range_steps}
+use Rattle.std.proofs.lemmas.Iterator.{YieldsList, items_from_drains}
+use Rattle.std.proofs.lemmas.Bool.Decides.{nat_tests}
+use Rattle.std.specs.Fn.{CalledAt}
+use Rattle.std.specs.Iterator.{KeyTurn, PicksMinByKey}
+use Rattle.std.specs.List.{FoldsTo, range_with_len}
+use Rattle.std.specs.Ordering.{nat_cmp, min_by_ordering}
+use Rattle.std.specs.declared.cmp.Ordering.{Ordering}
+use Rattle.std.specs.declared.cmp.Ordering.TheVariants.{Less, Equal, Greater}
+use Rattle.std.specs.declared.cmp.Reverse.{Reverse}
+use Rattle.std.specs.declared.ops.Range.{Range}
+use Rattle.std.proofs.lemmas.List.{map-id}
+use denote.Param.Members.{Mut}
 use Rattle.std.proofs.lemmas.Bool.{cases_lt, cond-true, cond-false, lt-ltb, le-ltb}
 use Rattle.error_log.specs.declared.note.Note.{Note}
 use Rattle.error_log.specs.Notes.{tally_of, highest, worst_of, Worst}
-
-tally_append : (b : ℕ) (xs ys : List Note) → tally_of b (xs ++ ys) ≡ tally_of b xs + tally_of b ys
-unfolding tally_of
-tally_append b [] ys = sym (zero-add (tally_of b ys))
-tally_append b (x ∷ xs) ys = ap (λ n. cond (eqb x.bank b) 1 0 + n) (tally_append b xs ys) ∙ sym (add_assoc (cond (eqb x.bank b) 1 0) (tally_of b xs) (tally_of b ys))
-
--- one note more
-pub tally_more : (b : ℕ) (xs : List Note) (i : ℕ) (d : Note) → i < length xs
-    → tally_of b (take (i + 1) xs) ≡ tally_of b (take i xs) + cond (eqb (get_or xs i d).bank b) 1 0
-unfolding tally_of
-tally_more b xs i d h =
-    ap (tally_of b) (take_more xs i d h) ∙ tally_append b (take i xs) (get_or xs i d ∷ [])
-    ∙ ap (λ n. tally_of b (take i xs) + n) (add-zero (cond (eqb (get_or xs i d).bank b) 1 0))
-
-pub tally_none : (b : ℕ) → tally_of b [] ≡ 0
-unfolding tally_of
-tally_none b = refl
 
 -- one bank more
 pub higher : (ns : List Note) (k : ℕ) → tally_of (highest ns k) ns < tally_of (suc k) ns → highest ns (suc k) ≡ suc k
@@ -41,33 +36,95 @@ pub record Highest (ns : List Note) (k b : ℕ) : Type 0 where
   pub most : (c : ℕ) → c ≤ k → tally_of c ns ≤ tally_of b ns
   pub lowest : (c : ℕ) → c < b → tally_of c ns < tally_of b ns
 
+takes : (ns : List Note) (k b : ℕ) → Highest ns k b → tally_of b ns < tally_of (suc k) ns → Highest ns (suc k) (suc k)
+takes ns k b i h = record {
+  among = omega arith;
+  most = λ c l.
+      ⊎_elim (λ (m : c < suc k). omega (arith, i.most c (omega arith)))
+      (λ (m : suc k ≤ c). let e : c ≡ suc k = omega arith in subst (λ n. tally_of n ns ≤ tally_of (suc k) ns) (sym e) (omega arith)) (cases_lt c (suc k));
+  lowest = λ c l. omega (arith, i.most c (omega arith));
+}
+
+keeps : (ns : List Note) (k b : ℕ) → Highest ns k b → tally_of (suc k) ns ≤ tally_of b ns → Highest ns (suc k) b
+keeps ns k b i h = record {
+  among = (let a = i.among in omega arith);
+  most = λ c l.
+      ⊎_elim (λ (m : c < suc k). i.most c (omega arith))
+      (λ (m : suc k ≤ c). let e : c ≡ suc k = omega arith in subst (λ n. tally_of n ns ≤ tally_of b ns) (sym e) h) (cases_lt c (suc k));
+  lowest = i.lowest;
+}
+
+first_is : (ns : List Note) → Highest ns 0 0
+first_is ns = record {
+  among = omega arith;
+  most = λ c h. (let e : c ≡ 0 = omega arith in subst (λ n. tally_of n ns ≤ tally_of 0 ns) (sym e) (omega arith));
+  lowest = λ c h. absurd (omega arith);
+}
+
 pub highest_is : (ns : List Note) (k : ℕ) → Highest ns k (highest ns k)
-highest_is ns zero =
-    subst (Highest ns 0) (sym (first_bank ns))
-    (record { among = omega arith; most = λ c h. (let e : c ≡ 0 = omega arith in subst (λ n. tally_of n ns ≤ tally_of 0 ns) (sym e) (omega arith)); lowest = λ c h. absurd (omega arith) })
+highest_is ns zero = subst (Highest ns 0) (sym (first_bank ns)) (first_is ns)
 highest_is ns (suc k) =
     let i = highest_is ns k in
     let b : ℕ = highest ns k in
     ⊎_elim
-    (λ (h : tally_of b ns < tally_of (suc k) ns).
-    subst (Highest ns (suc k)) (sym (higher ns k h))
-    (record {
-      among = omega arith;
-      most = λ c l.
-          ⊎_elim (λ (m : c < suc k). omega (arith, i.most c (omega arith)))
-          (λ (m : suc k ≤ c). let e : c ≡ suc k = omega arith in subst (λ n. tally_of n ns ≤ tally_of (suc k) ns) (sym e) (omega arith)) (cases_lt c (suc k));
-      lowest = λ c l. omega (arith, i.most c (omega arith));
-    }))
-    (λ (h : tally_of (suc k) ns ≤ tally_of b ns).
-    subst (Highest ns (suc k)) (sym (no_higher ns k h))
-    (record {
-      among = (let a = i.among in omega arith);
-      most = λ c l.
-          ⊎_elim (λ (m : c < suc k). i.most c (omega arith))
-          (λ (m : suc k ≤ c). let e : c ≡ suc k = omega arith in subst (λ n. tally_of n ns ≤ tally_of b ns) (sym e) h) (cases_lt c (suc k));
-      lowest = i.lowest;
-    }))
+    (λ (h : tally_of b ns < tally_of (suc k) ns). subst (Highest ns (suc k)) (sym (higher ns k h)) (takes ns k b i h))
+    (λ (h : tally_of (suc k) ns ≤ tally_of b ns). subst (Highest ns (suc k)) (sym (no_higher ns k h)) (keeps ns k b i h))
     (cases_lt (tally_of b ns) (tally_of (suc k) ns))
+
+-- no two banks are
+one_highest : (ns : List Note) (k b c : ℕ) → Highest ns k b → Highest ns k c → b ≡ c
+one_highest ns k b c i j =
+    ⊎_elim (λ (h : b < c). absurd (omega (arith, j.lowest b h, i.most c j.among)))
+    (λ (h : c ≤ b). ⊎_elim (λ (l : c < b). absurd (omega (arith, i.lowest c l, j.most b i.among))) (λ (l : b ≤ c). omega arith) (cases_lt c b))
+    (cases_lt b c)
+
+-- the bank that is picked by its tally, the greatest first
+by_order : (ns : List Note) (k b : ℕ) (o : Ordering) → nat_cmp (tally_of (suc k) ns) (tally_of b ns) ≡ o → Highest ns k b → Highest ns (suc k) (min_by_ordering o b (suc k))
+by_order ns k b Less e i = keeps ns k b i (grind (arith, nat_tests))
+by_order ns k b Equal e i = keeps ns k b i (grind (arith, nat_tests))
+by_order ns k b Greater e i = takes ns k b i (grind (arith, nat_tests))
+
+key_by_order : (n : ℕ → ℕ) (b x : ℕ) (p k : Reverse ℕ) (o : Ordering) → p.0 ≡ n b → k.0 ≡ n x → (min_by_ordering o p k).0 ≡ n (min_by_ordering o b x)
+key_by_order n b x p k Less e f = e
+key_by_order n b x p k Equal e f = e
+key_by_order n b x p k Greater e f = f
+
+module _ {F : Type 0} (g : Mut F (Bor ℕ × Unit {0}) (Reverse ℕ)) (f : F) (ns : List Note)
+    (calls : (x : ℕ) (k : Reverse ℕ) (q : F) → CalledAt g f x k q → (q ≡ f) × (k.0 ≡ tally_of x ns)) where
+  abbrev Turn : (F × Reverse ℕ) × ℕ → ℕ → (F × Reverse ℕ) × ℕ → Type 0
+  Turn = KeyTurn min_by_ordering min_by_ordering g (λ x y. nat_cmp y.0 x.0)
+
+  best : (m j : ℕ) (s t : (F × Reverse ℕ) × ℕ) → s.0.0 ≡ f → s.0.1.0 ≡ tally_of s.1 ns → Highest ns j s.1
+      → FoldsTo Turn s (range_with_len (suc j) m) t → Highest ns (j + m) t.1
+  best zero j s t same key i turns =
+      subst (λ n. Highest ns n t.1) (sym (add-zero j)) (subst (λ (u : (F × Reverse ℕ) × ℕ). Highest ns j u.1) turns i)
+  best (suc m) j s t same key i (u, turn, rest) =
+      let k : Reverse ℕ = turn.0 in
+      let o : Ordering = turn.1 in
+      let called = calls (suc j) k u.0.0 (subst (λ h. CalledAt g h (suc j) k u.0.0) same turn.2) in
+      let order : nat_cmp (tally_of (suc j) ns) (tally_of s.1 ns) ≡ o = rw (← called.1, ← key) turn.3 in
+      let next = subst (Highest ns (suc j)) (sym turn.5) (by_order ns j s.1 o order i) in
+      let key_next : u.0.1.0 ≡ tally_of u.1 ns =
+      ap (λ r. r.0) turn.4 ∙ key_by_order (λ b. tally_of b ns) s.1 (suc j) s.0.1 k o key called.1 ∙ ap (λ b. tally_of b ns) (sym turn.5) in
+      let on : suc j + m ≡ j + suc m = omega arith in
+      subst (λ n. Highest ns n t.1) on
+      (best m (suc j) u t called.0 key_next next (subst (λ n. FoldsTo Turn u (range_with_len n m) t) (add-one (suc j)) rest))
+
+pub picked : {F : Type 0} (g : Mut F (Bor ℕ × Unit {0}) (Reverse ℕ)) (f : F) (ns : List Note) (s : Range ℕ) (r : Option ℕ)
+    → PicksMinByKey nat_range_steps g (λ x y. nat_cmp y.0 x.0) s f r → YieldsList nat_range_steps (λ x. x) s (range_with_len 0 64)
+    → ((x : ℕ) (k : Reverse ℕ) (q : F) → CalledAt g f x k q → (q ≡ f) × (k.0 ≡ tally_of x ns)) → r ≡ Some (highest ns 63)
+picked g f ns s None drains road calls =
+    let items = items_from_drains [] (drains.1.0, drains.1.1, λ _. (drains.0, drains.1.2)) road in cc
+picked g f ns s (Some y) (x, xs, k, f', q, drains, called, turns) road calls =
+    let items = items_from_drains (x ∷ xs) (drains.1.0, drains.1.1, λ _. (drains.0, drains.1.2)) road in
+    let all : x ∷ xs ≡ range_with_len 0 64 = sym (map-id (x ∷ xs)) ∙ items in
+    let first : x ≡ 0 = cc in
+    let others : xs ≡ range_with_len 1 63 = cc in
+    let key = calls x k f' called in
+    ap Some
+    (one_highest ns 63 y (highest ns 63)
+    (best g f ns calls 63 0 ((f', k), x) (q, y) key.0 key.1 (subst (Highest ns 0) (sym first) (first_is ns)) (subst (λ l. FoldsTo (Turn g f ns calls) ((f', k), x) l (q, y)) others turns))
+    (highest_is ns 63))
 
 pub worst_some : (ns : List Note) → 0 < length ns → Some (highest ns 63) ≡ worst_of ns
 worst_some [] h = absurd (omega arith)

@@ -1,5 +1,5 @@
 -- The error log: which note is due, what the list holds after it, and what the notes tell of banks.
-use Rattle.std.specs.Prelude.{◌≡◌, ℕ, zero, suc, ◌+◌, ◌*◌, ◌/◌, ◌%◌, ◌<◌, ◌≤◌, min, cond, List, [], ◌∷◌, length, take, Some, None, Ok, Err, Option, Result, ◌==◌, nat_lt, slice_set}
+use Rattle.std.specs.Prelude.{count_by, ◌≡◌, ℕ, zero, suc, ◌+◌, ◌*◌, ◌/◌, ◌%◌, ◌<◌, ◌≤◌, min, cond, List, [], ◌∷◌, length, take, Some, None, Ok, Err, Option, Result, ◌==◌, nat_lt, slice_set}
 use Rattle.codec.specs.declared.word.Finding.{Finding}
 use Rattle.codec.specs.declared.word.Finding.TheVariants.{Clean, Corrected, Rebuilt, RebuiltCorrected}
 use Rattle.stack.specs.declared.refusal.Refusal.{Refusal}
@@ -73,9 +73,8 @@ abbrev pub Noted : ℕ → Result Finding Refusal → List Note → ℕ → Resu
 Noted a r notes used answer notes' used' = ◌≡◌ {A = Left} (record { answer = answer; notes = notes'; used = used' }) (appended (due a r) notes used)
 
 -- how many notes a bank has
-unfoldable pub tally_of : ℕ → List Note → ℕ
-tally_of b [] = 0
-tally_of b (n ∷ ns) = cond (n.bank == b) 1 0 + tally_of b ns
+abbrev pub tally_of : ℕ → List Note → ℕ
+tally_of b notes = count_by (λ n. n.bank == b) notes
 
 -- the bank with the highest tally among 0 to k, the lowest number among equals
 unfoldable pub highest : List Note → ℕ → ℕ

@@ -1,17 +1,19 @@
 // The error log: a host's list of notes, and what it tells of the banks.
 ghost use Rattle.std.specs.Prelude.{◌≡◌, ℕ, ◌<◌, ◌≤◌, List, length, Some, None};
 ghost use Rattle.stack.specs.Firsts.{first_of};
-ghost use Rattle.error_log.specs.Notes.{entries_of, tally_of, share_of, worst_of, Worst, Noted, bank_in, index_in};
+ghost use Rattle.error_log.specs.Notes.{entries_of, room, tally_of, share_of, worst_of, Worst, Noted, bank_in, index_in};
 
 use crate::note::{Note, due};
 use codec::word::Finding;
 use stack::located::first_at;
 use stack::refusal::Refusal;
+use std::cmp::Reverse;
 
 // how many notes of a list a log takes at most
 const MOST: usize = 65536;
 
 // A lent list of notes, of which the first `used` are used; a count beyond the list, or beyond 65,536, means a full log.
+// The host keeps list and count, since the log takes no heap.
 #[derive(Drop)]
 pub struct Log<'a> {
     pub notes: &'a mut [Note],
@@ -19,12 +21,18 @@ pub struct Log<'a> {
 }
 
 impl Log<'_> {
+    // How many notes the log can have.
+    fn capacity(&self) -> usize
+        ensures is_the_room { result ≡ room self.now.notes.now }
+    {
+        self.notes.len().min(MOST)
+    }
+
     // The used notes, in the order made.
     pub fn entries(&self) -> &[Note]
         ensures are_the_used_notes { result.now ≡ entries_of self.now.notes.now self.now.used }
     {
-        let end = self.used.min(MOST).min(self.notes.len());
-        &self.notes[0..end]
+        &self.notes[..self.used.min(self.capacity())]
     }
 
     // Notes what a read or a write of an address answered, where a note is due.
@@ -35,7 +43,7 @@ impl Log<'_> {
         let Some(note) = due(address, answer) else {
             return Ok(());
         };
-        if self.used >= MOST || self.used >= self.notes.len() {
+        if self.used >= self.capacity() {
             return Err(Refusal::LogFull);
         }
         self.notes[self.used] = note;
@@ -82,13 +90,7 @@ fn count(notes: &[Note], bank: usize) -> usize
     ensures is_the_tally { result ≡ tally_of bank notes.now }
     ensures no_more_than_there_are { result ≤ length notes.now }
 {
-    let mut n = 0;
-    for note in notes {
-        if note.bank == bank {
-            n += 1;
-        }
-    }
-    n
+    notes.iter().filter(|note| note.bank == bank).count()
 }
 
 // The bank from 0 to 63 with the highest tally, the lowest number among equals.
@@ -99,14 +101,6 @@ fn worst_in(notes: &[Note]) -> Option<usize>
     if notes.is_empty() {
         return None;
     }
-    let mut worst = 0;
-    let mut most = count(notes, 0);
-    for bank in 1..64 {
-        let tally = count(notes, bank);
-        if tally > most {
-            worst = bank;
-            most = tally;
-        }
-    }
-    Some(worst)
+    // `max_by_key` would give the last among equals.
+    (0..64).min_by_key(|bank| Reverse(count(notes, *bank)))
 }

@@ -9,10 +9,10 @@ use stack::refusal::Refusal;
 // What a note is about: a finding but a clean one, or a line that was refused.
 #[derive(Clone, Copy, PartialEq, Eq, Debug)]
 pub enum Kind {
-    Corrected,
-    Rebuilt,
-    RebuiltCorrected,
-    Refused,
+    Corrected = 1,
+    Rebuilt = 2,
+    RebuiltCorrected = 3,
+    Refused = 4,
 }
 
 impl Kind {
@@ -20,12 +20,7 @@ impl Kind {
     pub fn number(&self) -> u8
         ensures is_the_kind_s_number { result ≡ kind_number self.now }
     {
-        match self {
-            Kind::Corrected => 1,
-            Kind::Rebuilt => 2,
-            Kind::RebuiltCorrected => 3,
-            Kind::Refused => 4,
-        }
+        *self as u8
     }
 }
 
@@ -58,13 +53,14 @@ impl Located for Note {
 pub fn due(address: usize, answer: &Result<Finding, Refusal>) -> Option<Note>
     ensures is_the_note_due { result ≡ due_for address answer.now }
 {
-    let (kind, symbol, value) = match answer {
+    let (kind, (symbol, value)) = match answer {
         Ok(Finding::Clean) => return None,
-        Ok(Finding::Corrected((symbol, value))) => (Kind::Corrected, *symbol, *value),
-        Ok(Finding::Rebuilt) => (Kind::Rebuilt, 0, 0),
-        Ok(Finding::RebuiltCorrected((symbol, value))) => (Kind::RebuiltCorrected, *symbol, *value),
-        Err(Refusal::PartnerUncorrectable { .. }) => (Kind::Refused, 0, 0),
-        Err(Refusal::RebuildFailed { .. }) => (Kind::Refused, 0, 0),
+        Ok(Finding::Corrected(pair)) => (Kind::Corrected, *pair),
+        Ok(Finding::Rebuilt) => (Kind::Rebuilt, (0, 0)),
+        Ok(Finding::RebuiltCorrected(pair)) => (Kind::RebuiltCorrected, *pair),
+        Err(Refusal::PartnerUncorrectable { .. } | Refusal::RebuildFailed { .. }) => {
+            (Kind::Refused, (0, 0))
+        }
         Err(_) => return None,
     };
     Some(Note {

@@ -5,14 +5,14 @@ use Rattle.stack.specs.Flat.{flat_sound}
 use Rattle.stack.specs.Memory.{Piece}
 use Rattle.stack.specs.Memories.{LentStored, lent_means}
 use Rattle.stack.specs.Pieces.{InOrder, done, more}
-use Rattle.stack.specs.declared.flat.lent.LentMemory.{LentMemory}
+use Rattle.stack.specs.Memories.{LentMemory}
 use Rattle.stack.specs.declared.memory.Stack.{Ghosts}
 use Rattle.rules.specs.Rules.{HostCall, along, answer, plan, puts}
 use Rattle.rules.specs.declared.calls.Call.TheVariants.{Read, Write, Renew, Clear, Scrub, Mark, Settle, Pass}
 use Rattle.rules.specs.Work.{formatting}
 use Rattle.rules.proofs.Laying.{along_nothing}
 use Rattle.rules.specs.Boards.{board}
-use Rattle.rules.specs.declared.calls.Answer.{Answer}
+use Rattle.rules.specs.Answers.{Answer}
 use Rattle.board.specs.Marks.{listed}
 use Rattle.board.specs.State.{state}
 use Rattle.board.specs.declared.board.Board.{Board}

@@ -1,3 +1,2 @@
 mod LentLaws
 mod CallLaws
-mod WordLaws

@@ -1,17 +1,17 @@
 -- A board over memory that a host lends for one call.
-use Rattle.std.specs.Prelude.{◌≡◌, ℕ, cond, List, [], ◌∷◌, length, Some, None, Option, ◌==◌}
+use Rattle.std.specs.Prelude.{◌≡◌, ℕ, cond, List, [], ◌∷◌, length, Some, None, Option, ◌==◌, Ok, Err}
 use Rattle.std.specs.List.{range_with_len}
 use Rattle.stack.specs.Flat.{flat_means, size_of, written}
 use Rattle.stack.specs.Memory.{Piece}
-use Rattle.stack.specs.declared.flat.lent.LentMemory.{LentMemory}
+use Rattle.stack.specs.Memories.{LentMemory}
 use Rattle.stack.specs.declared.refusal.Refusal.{Refusal}
 use Rattle.stack.specs.declared.refusal.Refusal.TheVariants.{LengthFitsNoSize}
 use Rattle.rules.specs.Boards.{board}
 use Rattle.rules.specs.Rules.{HostCall, State, along, answer, or_refused, puts}
 use Rattle.rules.specs.History.{Formatted, marks_after}
 use Rattle.rules.specs.Work.{formatting}
-use Rattle.rules.specs.declared.calls.Answer.{Answer}
-use Rattle.rules.specs.declared.calls.Answer.TheVariants.{Refused, HandedOut, Written, Renewed, Cleared, Scrubbed, Marked, Done}
+use Rattle.rules.specs.Answers.{Answer}
+use Rattle.rules.specs.declared.calls.Outcome.TheVariants.{HandedOut, Written, Renewed, Cleared, Scrubbed, Marked, Done}
 use Rattle.rules.specs.declared.calls.Call.TheVariants.{Mark, Read}
 use Rattle.board.specs.Marks.{listed}
 use Rattle.board.specs.declared.marks.Marks.{Marks}
@@ -61,14 +61,14 @@ lent_after bytes k c = unless_refused (unusable bytes k) bytes (all_written byte
 
 -- a line buffer after a read: the line handed out, or what it held
 abbrev pub handed : Answer → List ℕ → List ℕ
-handed (Refused e) old = old
-handed (HandedOut l f) old = l
-handed (Written f) old = old
-handed Renewed old = old
-handed Cleared old = old
-handed (Scrubbed n) old = old
-handed (Marked b) old = old
-handed Done old = old
+handed (Err e) old = old
+handed (Ok (HandedOut l f)) old = l
+handed (Ok (Written f)) old = old
+handed (Ok Renewed) old = old
+handed (Ok Cleared) old = old
+handed (Ok (Scrubbed n)) old = old
+handed (Ok (Marked b)) old = old
+handed (Ok Done) old = old
 
 -- the same, for a read of an address
 abbrev pub line_read : List ℕ → MarkedBanks → ℕ → List ℕ → List ℕ
@@ -76,14 +76,14 @@ line_read bytes k a old = handed (lent_answer bytes k (Read a (length old))) old
 
 -- the host's list of marked banks after a call with that answer, where it is a mark of bank b
 abbrev pub marked_by : Answer → MarkedBanks → ℕ → MarkedBanks
-marked_by (Refused e) k b = k
-marked_by (HandedOut l f) k b = k
-marked_by (Written f) k b = k
-marked_by Renewed k b = k
-marked_by Cleared k b = k
-marked_by (Scrubbed n) k b = k
-marked_by (Marked spare) k b = one_more k b
-marked_by Done k b = k
+marked_by (Err e) k b = k
+marked_by (Ok (HandedOut l f)) k b = k
+marked_by (Ok (Written f)) k b = k
+marked_by (Ok Renewed) k b = k
+marked_by (Ok Cleared) k b = k
+marked_by (Ok (Scrubbed n)) k b = k
+marked_by (Ok (Marked spare)) k b = one_more k b
+marked_by (Ok Done) k b = k
 
 -- a memory with zeros put everywhere
 abbrev pub zeroed : List ℕ → List ℕ

@@ -1,9 +1,9 @@
 -- What a host in C is told of an answer, in numbers.
-use Rattle.std.specs.Prelude.{ℕ}
+use Rattle.std.specs.Prelude.{ℕ, Ok, Err}
 use Rattle.codec.specs.declared.word.Finding.{Finding}
 use Rattle.codec.specs.declared.word.Finding.TheVariants.{Clean, Corrected, Rebuilt, RebuiltCorrected}
-use Rattle.rules.specs.declared.calls.Answer.{Answer}
-use Rattle.rules.specs.declared.calls.Answer.TheVariants.{Refused, HandedOut, Written, Renewed, Cleared, Scrubbed, Marked, Done}
+use Rattle.rules.specs.Answers.{Answer}
+use Rattle.rules.specs.declared.calls.Outcome.TheVariants.{HandedOut, Written, Renewed, Cleared, Scrubbed, Marked, Done}
 use Rattle.stack.specs.Refusals.{numbered}
 use Rattle.stack.specs.declared.refusal.Refusal.{Refusal}
 use Rattle.stack.specs.declared.refusal.Refusal.TheVariants.{AddressOutOfRange, LineLength, BankOutOfRange, BankAlreadyMarked, NoSpareLeft, WorkBufferShort, PartnerUncorrectable, RebuildFailed, PlaceOutOfRange, LengthFitsNoSize, EmptyMask, FaultTableFull, LogFull, LineUnreadable}
@@ -63,11 +63,11 @@ found_reply Rebuilt = found_by 2 0 0
 found_reply (RebuiltCorrected p) = found_by 3 p.0 p.1
 
 abbrev pub told : Answer → Reply
-told (Refused e) = refused_reply e
-told (HandedOut l f) = found_reply f
-told (Written f) = found_reply f
-told Renewed = plain 0
-told Cleared = plain 0
-told (Scrubbed n) = plain n
-told (Marked b) = plain b
-told Done = plain 0
+told (Err e) = refused_reply e
+told (Ok (HandedOut l f)) = found_reply f
+told (Ok (Written f)) = found_reply f
+told (Ok Renewed) = plain 0
+told (Ok Cleared) = plain 0
+told (Ok (Scrubbed n)) = plain n
+told (Ok (Marked b)) = plain b
+told (Ok Done) = plain 0

@@ -1,8 +1,11 @@
 -- Words as a host in C gives them, and what it is told of them.
-use Rattle.std.specs.Prelude.{◌≡◌, ℕ, Bool, true, false, cond, ◌&&◌, ◌||◌, List, length, take, Option, MatchOption, ◌==◌}
+use Rattle.std.specs.Prelude.{◌≡◌, ℕ, Bool, true, false, cond, ◌&&◌, ◌||◌, List, length, take, Option, Result, MatchOption, ◌==◌}
+use Rattle.std.specs.Borrow.{Bor, MutBor}
 use Rattle.codec.specs.Check.{check}
 use Rattle.codec.specs.Code.{Decoded, found, uncorrectable}
-use Rattle.codec.specs.Shown.{symbols}
+use Rattle.codec.specs.Shown.{symbols, told as outcome}
+use Rattle.codec.specs.declared.word.Finding.{Finding}
+use Rattle.codec.specs.declared.word.Uncorrectable.{Uncorrectable}
 use Rattle.codec.specs.declared.word.Word.{Word}
 use Rattle.ffi.specs.Replies.{found_reply, refused_by}
 use Rattle.ffi.specs.declared.replies.Reply.{Reply}
@@ -55,3 +58,7 @@ reply_by f w old = word_reply (word_fits w (length old)) (f w)
 
 abbrev pub line_by : (List ℕ → Decoded) → List ℕ → List ℕ → List ℕ
 line_by f w old = word_line (word_fits w (length old)) (f w) old
+
+-- what a way of finding a word's line answers, and leaves in the line's buffer, is what `d` gives for the word's symbols
+abbrev pub Computes : (List ℕ → Decoded) → (Bor Word → MutBor (List ℕ) → Result Finding Uncorrectable → MutBor (List ℕ) → Type 0) → Type 0
+Computes d post = (w : Bor Word) (before after : MutBor (List ℕ)) (r : Result Finding Uncorrectable) → post w before r after → outcome r after.now ≡ d (symbols w.now)

@@ -18,13 +18,9 @@ pub(crate) fn call_on(memory: &mut [u8], banks: &MarkedBanks, call: &Call<&[u8]>
     ensures answers { result ≡ lent_answer memory.old banks.now (heard call.now) }
     ensures stores { memory.new ≡ lent_after memory.old banks.now (heard call.now) }
 {
-    match usable(memory.len(), banks) {
-        Ok(marks) => {
-            let mut lent = LentMemory { bytes: memory };
-            perform_on(&mut lent, marks, call)
-        }
-        Err(refusal) => Answer::Refused(refusal),
-    }
+    let marks = usable(memory.len(), banks)?;
+    let mut lent = LentMemory { bytes: memory };
+    perform_on(&mut lent, marks, call)
 }
 
 // The marks, where the memory's length fits a board and the marks can be a board's.
@@ -32,7 +28,7 @@ fn usable(length: usize, banks: &MarkedBanks) -> Result<Marks, Refusal>
     ensures gives_marks_or_refuses { MatchResult result (Usable length banks.now) (λ e. unusable_by length banks.now ≡ Some e) }
 {
     ByteMemory::check_length(length)?;
-    banks.marks()
+    Marks::try_from(*banks)
 }
 
 // Does a call on a board over lent memory. The loan goes into the board and comes back, so that the lender knows its bytes.

@@ -4,7 +4,6 @@
 pub mod banks;
 pub mod boards;
 mod lent;
-mod lineless;
 mod lines;
 pub mod replies;
 pub mod words;

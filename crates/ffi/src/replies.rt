@@ -1,14 +1,14 @@
 // What a host in C is told, in numbers.
 ghost use Rattle.std.specs.Prelude.{◌≡◌};
-ghost use Rattle.ffi.specs.Replies.{plain, refused_by, refused_reply, found_reply, told};
+ghost use Rattle.ffi.specs.Replies.{found_reply, refused_by, refused_reply, told};
 
-use codec::word::Finding;
-use rules::calls::Answer;
+use codec::word::{Finding, Uncorrectable};
+use rules::calls::{Answer, Outcome};
 use stack::refusal::Refusal;
 
-// The answer to a call; what it does not carry is 0.
+// The answer to a call, in numbers, since C reads them; what it does not carry is 0.
 #[repr(C)]
-#[derive(Clone, Copy)]
+#[derive(Clone, Copy, Default, PartialEq, Eq, Debug)]
 pub struct Reply {
     // the refusal's number, 0 where the call was accepted, 255 for an uncorrectable word
     pub refusal: u8,
@@ -26,82 +26,68 @@ pub struct Reply {
 // No refusal has this number.
 const UNCORRECTABLE: u8 = 255;
 
-const NOTHING: Reply = Reply {
-    refusal: 0,
-    finding: 0,
-    value: 0,
-    symbol: 0,
-    number: 0,
-    address: 0,
-    partner: 0,
-};
+// Refused.
+impl From<Refusal> for Reply {
+    ghost from_gives = { λ refusal reply. reply ≡ refused_reply refusal };
 
-impl Reply {
-    // Accepted, with a count or a bank.
-    pub(crate) fn numbered(number: usize) -> Reply
-        ensures has_the_number { result ≡ plain number }
-    {
-        Reply { number, ..NOTHING }
-    }
-
-    // Refused.
-    pub(crate) fn refused(refusal: &Refusal) -> Reply
-        ensures names_the_refusal { result ≡ refused_reply refusal.now }
-    {
-        let mut reply = Reply {
-            refusal: refusal.number(),
-            ..NOTHING
+    fn from(refusal: Refusal) -> Reply {
+        let (address, partner) = match refusal {
+            Refusal::PartnerUncorrectable { address, partner } => (address, partner),
+            Refusal::RebuildFailed { address } => (address, 0),
+            _ => (0, 0),
         };
-        match *refusal {
-            Refusal::PartnerUncorrectable { address, partner } => {
-                reply.address = address;
-                reply.partner = partner;
-            }
-            Refusal::RebuildFailed { address } => reply.address = address,
-            _ => {}
+        Reply {
+            refusal: refusal.number(),
+            address,
+            partner,
+            ..Reply::default()
         }
-        reply
     }
+}
 
-    // What is said of a word that is uncorrectable, or cannot be judged right.
-    pub(crate) fn uncorrectable() -> Reply
-        ensures says_255 { result ≡ refused_by 255 0 0 }
-    {
+// Of a word that is uncorrectable, or cannot be judged right.
+impl From<Uncorrectable> for Reply {
+    ghost from_gives = { λ _ reply. reply ≡ refused_by 255 0 0 };
+
+    fn from(_: Uncorrectable) -> Reply {
         Reply {
             refusal: UNCORRECTABLE,
-            ..NOTHING
+            ..Reply::default()
         }
     }
+}
 
-    // Accepted, with a finding.
-    pub(crate) fn found(finding: &Finding) -> Reply
-        ensures has_the_finding { result ≡ found_reply finding.now }
-    {
-        let mut reply = Reply {
-            finding: finding.number(),
-            ..NOTHING
+// Accepted, with a finding.
+impl From<Finding> for Reply {
+    ghost from_gives = { λ finding reply. reply ≡ found_reply finding };
+
+    fn from(finding: Finding) -> Reply {
+        let (symbol, value) = match finding {
+            Finding::Corrected(pair) | Finding::RebuiltCorrected(pair) => pair,
+            Finding::Clean | Finding::Rebuilt => (0, 0),
         };
-        match *finding {
-            Finding::Corrected((symbol, value)) | Finding::RebuiltCorrected((symbol, value)) => {
-                reply.symbol = symbol;
-                reply.value = value;
-            }
-            _ => {}
+        Reply {
+            finding: finding.number(),
+            value,
+            symbol,
+            ..Reply::default()
         }
-        reply
     }
+}
 
-    // What a board's answer says.
-    pub(crate) fn to(answer: &Answer) -> Reply
-        ensures tells_the_answer { result ≡ told answer.now }
-    {
+// What a board's answer says.
+impl From<Answer> for Reply {
+    ghost from_gives = { λ answer reply. reply ≡ told answer };
+
+    fn from(answer: Answer) -> Reply {
         match answer {
-            Answer::Refused(refusal) => Reply::refused(refusal),
-            Answer::HandedOut(_, finding) => Reply::found(finding),
-            Answer::Written(finding) => Reply::found(finding),
-            Answer::Scrubbed(count) => Reply::numbered(*count),
-            Answer::Marked(spare) => Reply::numbered(*spare),
-            Answer::Renewed | Answer::Cleared | Answer::Done => NOTHING,
+            Err(refusal) => Reply::from(refusal),
+            Ok(Outcome::HandedOut(_, finding) | Outcome::Written(finding)) => Reply::from(finding),
+            Ok(Outcome::Scrubbed(number) | Outcome::Marked(number)) => Reply {
+                number,
+                ..Reply::default()
+            },
+            Ok(Outcome::Renewed | Outcome::Cleared | Outcome::Done) => Reply::default(),
         }
     }
 }

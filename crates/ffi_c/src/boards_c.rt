@@ -1,7 +1,7 @@
 // The functions on boards.
-ghost use Rattle.std.specs.Prelude.{◌≡◌, length};
+ghost use Rattle.std.specs.Prelude.{◌≡◌, Ok, length};
 ghost use Rattle.rules.specs.Rules.{or_refused};
-ghost use Rattle.rules.specs.declared.calls.Answer.TheVariants.{Done as DoneAnswer};
+ghost use Rattle.rules.specs.declared.calls.Outcome.TheVariants.{Done as DoneOutcome};
 ghost use Rattle.rules.specs.declared.calls.Call.TheVariants.{Read as ReadCall, Write as WriteCall, Renew as RenewCall, Clear as ClearCall, Scrub as ScrubCall, Mark as MarkCall};
 ghost use Rattle.ffi.specs.Lent.{Formats, MarksListed, format_after, lent_after, lent_answer, line_read, marks_left, unfit, unmarked};
 ghost use Rattle.ffi.specs.Replies.{told};
@@ -13,7 +13,7 @@ use ffi::replies::Reply;
 // Puts zeros everywhere; no bank is marked any more. Refuses a length that fits no size with 10.
 #[unsafe(no_mangle)]
 pub extern "C" fn jelotsam_format(memory: &mut [u8], marked: &mut MarkedBanks) -> Reply
-    ensures refuses_a_bad_length_alone { result ≡ told (or_refused (unfit memory.old) DoneAnswer) }
+    ensures refuses_a_bad_length_alone { result ≡ told (or_refused (unfit memory.old) (Ok DoneOutcome)) }
     ensures puts_zeros { memory.new ≡ format_after memory.old }
     ensures formats_a_board { Formats memory.old memory.new }
     ensures forgets_the_marks { marked.new ≡ unmarked (unfit memory.old) marked.old }

@@ -4,8 +4,8 @@ use Rattle.codec.specs.Shown.{number_of}
 use Rattle.stack.specs.Refusals.{numbered}
 use Rattle.stack.specs.declared.refusal.Refusal.{Refusal}
 use Rattle.stack.specs.declared.refusal.Refusal.TheVariants.{LineUnreadable}
-use Rattle.rules.specs.declared.calls.Answer.{Answer}
-use Rattle.rules.specs.declared.calls.Answer.TheVariants.{Cleared, Done, HandedOut, Marked, Refused, Renewed, Scrubbed, Written}
+use Rattle.rules.specs.Answers.{Answer}
+use Rattle.rules.specs.declared.calls.Outcome.TheVariants.{Cleared, Done, HandedOut, Marked, Renewed, Scrubbed, Written}
 use Rattle.language.specs.declared.reply.Reply.{Reply}
 
 abbrev pub reply : ℕ → Option Refusal → Option ℕ → Option ℕ → Reply
@@ -28,14 +28,14 @@ fault_reply (Err e) = refused 88 e
 
 -- to a call: the finding of a read or a write, the count of a scrub, the spare of a mark, the first byte of the line read
 abbrev pub call_reply : ℕ → Answer → Reply
-call_reply letter (Refused e) = refused letter e
-call_reply letter (HandedOut l f) = reply letter None (Some (number_of f)) (Some (slice_index l 0))
-call_reply letter (Written f) = with_detail letter (Some (number_of f))
-call_reply letter Renewed = with_detail letter None
-call_reply letter Cleared = with_detail letter None
-call_reply letter (Scrubbed n) = with_detail letter (Some n)
-call_reply letter (Marked b) = with_detail letter (Some b)
-call_reply letter Done = with_detail letter None
+call_reply letter (Err e) = refused letter e
+call_reply letter (Ok (HandedOut l f)) = reply letter None (Some (number_of f)) (Some (slice_index l 0))
+call_reply letter (Ok (Written f)) = with_detail letter (Some (number_of f))
+call_reply letter (Ok Renewed) = with_detail letter None
+call_reply letter (Ok Cleared) = with_detail letter None
+call_reply letter (Ok (Scrubbed n)) = with_detail letter (Some n)
+call_reply letter (Ok (Marked b)) = with_detail letter (Some b)
+call_reply letter (Ok Done) = with_detail letter None
 
 -- the number of a refusal; 0 where there is none
 abbrev pub refusal_number : Option Refusal → ℕ

@@ -45,8 +45,8 @@ pub fn read_command(line: &[u8]) -> Option<Command>
         return None;
     };
     match *letter {
-        b'X' => Some(Command::Inject(read_fault(line)?)),
-        letter => Some(Command::Do(read_call(letter, line)?)),
+        b'X' => read_fault(line).map(Command::Inject),
+        letter => read_call(letter, line).map(Command::Do),
     }
 }
 
@@ -95,13 +95,11 @@ fn read_call(letter: u8, line: &[u8]) -> Option<Call<u8>>
 fn alone(line: &[u8], call: Call<u8>) -> Option<Call<u8>>
     ensures takes_no_field { result ≡ of_count 1 (fields line.now) (Some call) }
 {
-    if count_fields(line) != 1 {
-        return None;
-    }
-    Some(call)
+    (count_fields(line) == 1).then_some(call)
 }
 
 // The number that is the only further field.
+// Fields are fetched by number, since an array of N references, N a parameter, has no proof yet.
 fn lone_number(line: &[u8]) -> Option<usize>
     ensures is_what_it_spells { result ≡ lone_number (fields line.now) }
 {
@@ -118,9 +116,7 @@ fn number_and_byte(line: &[u8]) -> Option<(usize, u8)>
     if count_fields(line) != 3 {
         return None;
     }
-    let n = number(field(line, 1))?;
-    let b = byte(field(line, 2))?;
-    Some((n, b))
+    Some((number(field(line, 1))?, byte(field(line, 2))?))
 }
 
 // The fault that six further fields spell.

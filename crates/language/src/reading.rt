@@ -12,13 +12,10 @@ fn digit(b: u8) -> Option<usize>
     ensures is_its_value { result ≡ digit_value b }
     ensures is_below_ten { IfSome result (λ d. d < 10) }
 {
-    match b {
-        b'0'..=b'9' => Some((b - b'0') as usize),
-        _ => None,
-    }
+    char::from(b).to_digit(10).map(|d| d as usize)
 }
 
-// The value of a hexadecimal digit in capitals.
+// The value of a hexadecimal digit in capitals; `to_digit` would read small letters too.
 fn hex_digit(b: u8) -> Option<u8>
     ensures is_its_value { result ≡ hex_value b }
     ensures is_below_sixteen { IfSome result (λ d. d < 16) }
@@ -58,14 +55,10 @@ pub fn byte(field: &[u8]) -> Option<u8>
 pub fn delay(field: &[u8]) -> Option<u8>
     ensures is_what_it_spells { result ≡ delay_in field.now }
 {
-    let n = number(field)?;
-    if n > 255 {
-        return None;
-    }
-    Some(n as u8)
+    u8::try_from(number(field)?).ok()
 }
 
-// A kind of fault.
+// A kind of fault: a script is bytes and need not be text, so letters are matched as bytes.
 pub fn kind(field: &[u8]) -> Option<FaultKind>
     ensures is_what_it_spells { result ≡ kind_in field.now }
 {

@@ -1,13 +1,13 @@
 -- Laws of the lines that are buffered.
-use Rattle.std.proofs.Common.{◌≡◌, ℕ, zero, suc, ◌+◌, ◌-◌, ◌%◌, ◌<◌, ◌≤◌, Bool, true, false, cond, not, ◌&&◌, eqb, List, [], ◌∷◌, ◌++◌, length, get_or, take, drop, set, Some, None, Option, sym, refl, ap, ◌∙◌, subst, ⊎_elim, arith, rules, MatchOption}
+use Rattle.std.proofs.Common.{◌≡◌, ℕ, zero, suc, ◌+◌, ◌-◌, ◌%◌, ◌<◌, ◌≤◌, Bool, true, false, cond, not, ◌&&◌, eqb, List, [], ◌∷◌, ◌++◌, length, get_or, take, drop, set, Some, None, Option, sym, refl, ap, ap₂, ◌∙◌, subst, ⊎_elim, arith, rules, MatchOption}
 use borrow.Rule.Slice.PartMut.{put_mid}
-use lib.Seq.{paste, take-set-lt}
+use lib.Seq.{paste}
 use Rattle.std.proofs.lemmas.Bool.{cond-true, cond-false, and_parts, and_from, cases_Bool, eqb-true, eq-eqb, both_ways, not-true, not_from_false}
 use Rattle.std.proofs.lemmas.List.Edits.{length-paste}
-use Rattle.std.proofs.lemmas.List.{get_or-take, get_or-drop, get_or_default, places}
+use Rattle.std.proofs.lemmas.List.{get_or-take, get_or-drop, get_or_default, length-set, places, take_at}
 use Rattle.std.proofs.lemmas.Slice.{put_mid-paste}
 use Rattle.stack.specs.Memory.{Contents, Piece, covers, cells}
-use Rattle.stack.specs.Firsts.{first_from}
+use Rattle.std.specs.List.{position_from, refill}
 use Rattle.stack.proofs.PieceLaws.{covered_at, is_cells}
 use Rattle.layers.specs.Lines.{is_of, is_buffered, orderly, overlaid, with_piece, rewritten}
 use Rattle.layers.specs.declared.line.BufferedLine.{BufferedLine}
@@ -19,8 +19,8 @@ pub record FoundAt (ls : List BufferedLine) (p : Piece) (i : ℕ) : Type 0 where
   pub rewrites : (d : BufferedLine) → rewritten ls p ≡ set ls i (with_piece (get_or ls i d) p)
   pub shows : (d : BufferedLine) (m : Contents) (k : ℕ) → overlaid ls m p.bank p.index k ≡ get_or (get_or ls i d).bytes k 0 % 256
 
-found : (ls : List BufferedLine) (p : Piece) (n j : ℕ) → first_from (λ l. is_of l p.bank p.index) n ls ≡ Some j → (i : ℕ) × (n + i ≡ j) × FoundAt ls p i
-unfolding first_from is_buffered rewritten overlaid
+found : (ls : List BufferedLine) (p : Piece) (n j : ℕ) → position_from (λ l. is_of l p.bank p.index) n ls ≡ Some j → (i : ℕ) × (n + i ≡ j) × FoundAt ls p i
+unfolding is_buffered rewritten overlaid
 found [] p n j e = let z : ◌≡◌ {A = ℕ} 0 1 = cc in absurd (omega arith)
 found (l ∷ ls) p n j e =
     ⊎_elim
@@ -49,8 +49,8 @@ found (l ∷ ls) p n j e =
     ))
     (cases_Bool (is_of l p.bank p.index))
 
-missing : (ls : List BufferedLine) (b i n : ℕ) → first_from (λ l. is_of l b i) n ls ≡ None → is_buffered ls b i ≡ false
-unfolding first_from is_buffered
+missing : (ls : List BufferedLine) (b i n : ℕ) → position_from (λ l. is_of l b i) n ls ≡ None → is_buffered ls b i ≡ false
+unfolding is_buffered
 missing [] b i n e = refl
 missing (l ∷ ls) b i n e =
     ⊎_elim
@@ -61,14 +61,14 @@ missing (l ∷ ls) b i n e =
     (cases_Bool (is_of l b i))
 
 -- what looking for a line tells
-pub known : (ls : List BufferedLine) (b i n : ℕ) (r : Option ℕ) → r ≡ first_from (λ l. is_of l b i) 0 ls → length ls ≤ n → MatchOption r (is_buffered ls b i ≡ false) (λ j. j < n)
-known ls b i n None e h = missing ls b i 0 (sym e)
-known ls b i n (Some j) e h =
+pub known : (ls : List BufferedLine) (b i : ℕ) (r : Option ℕ) → r ≡ position_from (λ l. is_of l b i) 0 ls → MatchOption r (is_buffered ls b i ≡ false) (λ j. j < length ls)
+known ls b i None e = missing ls b i 0 (sym e)
+known ls b i (Some j) e =
     let f = found ls (record { bank = b; index = i; from = 0; bytes = [] }) 0 j (sym e) in
     let w = f.2.within in
     omega (arith, f.1, w)
 
-pub found_at : (ls : List BufferedLine) (p : Piece) (j : ℕ) → Some j ≡ first_from (λ l. is_of l p.bank p.index) 0 ls → FoundAt ls p j
+pub found_at : (ls : List BufferedLine) (p : Piece) (j : ℕ) → Some j ≡ position_from (λ l. is_of l p.bank p.index) 0 ls → FoundAt ls p j
 found_at ls p j e =
     let f = found ls p 0 j (sym e) in
     let same : f.0 ≡ j = omega (arith, f.1) in
@@ -200,14 +200,12 @@ part_shown ls p j n d ys at e len bytes =
     get_or_default ys k z 0 h ∙ one)
 
 -- a line written in place: `count` of `xs` are buffered
-pub part_written : (xs : List BufferedLine) (count j k : ℕ) (d : BufferedLine) (p : Piece) (ys : List ℕ) → j < count → FoundAt (take count xs) p j → ys ≡ p.bytes → k ≡ length p.bytes
-    → take count (set xs j (record { bank = (get_or xs j d).bank; index = (get_or xs j d).index; bytes = put_mid p.from k (get_or xs j d).bytes ys })) ≡ rewritten (take count xs) p
-part_written xs count j k d p ys h at ey ek =
-    let e : ◌≡◌ {A = BufferedLine} (record { bank = (get_or xs j d).bank; index = (get_or xs j d).index; bytes = put_mid p.from k (get_or xs j d).bytes ys }) (with_piece (get_or xs j d) p) =
-    ap (λ (bs : List ℕ). let l : BufferedLine = record { bank = (get_or xs j d).bank; index = (get_or xs j d).index; bytes = bs } in l) (put_mid-paste p.from k (get_or xs j d).bytes ys p.bytes (length p.bytes) ey (sym ek) refl) in
-    take-set-lt count xs j _ h
-    ∙ ap (λ (l : BufferedLine). set (take count xs) j l) (e ∙ ap (λ (l : BufferedLine). with_piece l p) (sym (get_or-take count xs j d h)))
-    ∙ sym (at.rewrites d)
+pub part_written : (ls : List BufferedLine) (j k : ℕ) (d : BufferedLine) (p : Piece) (ys : List ℕ) → FoundAt ls p j → ys ≡ p.bytes → k ≡ length p.bytes
+    → set ls j (record { bank = (get_or ls j d).bank; index = (get_or ls j d).index; bytes = put_mid p.from k (get_or ls j d).bytes ys }) ≡ rewritten ls p
+part_written ls j k d p ys at ey ek =
+    let e : ◌≡◌ {A = BufferedLine} (record { bank = (get_or ls j d).bank; index = (get_or ls j d).index; bytes = put_mid p.from k (get_or ls j d).bytes ys }) (with_piece (get_or ls j d) p) =
+    ap (λ (bs : List ℕ). let l : BufferedLine = record { bank = (get_or ls j d).bank; index = (get_or ls j d).index; bytes = bs } in l) (put_mid-paste p.from k (get_or ls j d).bytes ys p.bytes (length p.bytes) ey (sym ek) refl) in
+    ap (λ (l : BufferedLine). set ls j l) e ∙ sym (at.rewrites d)
 
 -- a place of another bank or index is not covered
 pub off_line : (p : Piece) (l : BufferedLine) (b i k : ℕ) → is_of l p.bank p.index ≡ true → is_of l b i ≡ false → covers p b i k ≡ false
@@ -245,3 +243,13 @@ piece_below xs p k fits low = search (rules, places)
 pub piece_above : (xs : List ℕ) (p : Piece) (k : ℕ) → p.from + length p.bytes ≤ length xs → p.from + length p.bytes ≤ k
     → get_or (paste xs p.from p.bytes (length p.bytes)) k 0 ≡ get_or xs k 0
 piece_above xs p k fits high = search (rules, places)
+
+-- the same of a table's slice, which is lent and given back
+pub refilled : (ls lent shown : List BufferedLine) (j k : ℕ) (d : BufferedLine) (p : Piece) (ys : List ℕ) → FoundAt ls p j → lent ≡ ls → shown ≡ ls → ys ≡ p.bytes → k ≡ length p.bytes
+    → refill (length ls) ls (set lent j (record { bank = (get_or shown j d).bank; index = (get_or shown j d).index; bytes = put_mid p.from k (get_or shown j d).bytes ys })) ≡ rewritten ls p
+refilled ls lent shown j k d p ys at el es ey ek =
+    let now : List BufferedLine → List BufferedLine → List BufferedLine =
+    λ ms ns. set ms j (record { bank = (get_or ns j d).bank; index = (get_or ns j d).index; bytes = put_mid p.from k (get_or ns j d).bytes ys }) in
+    let same : now lent shown ≡ now ls ls = ap₂ now el es in
+    let whole : length (now lent shown) ≡ length ls = ap length same ∙ length-set ls j _ in
+    take_at (now lent shown) (drop (length (now lent shown)) ls) (length ls) whole ∙ same ∙ part_written ls j k d p ys at ey ek

@@ -1,19 +1,18 @@
 // A memory with lines buffered above it until they are settled.
-ghost use Rattle.std.specs.Prelude.{◌≡◌, ◌≤◌, true, length, take};
+ghost use Rattle.std.specs.Prelude.{◌≡◌, true};
 ghost use Rattle.layers.specs.Lines.{orderly};
 
 use super::line::BufferedLine;
+use arrayvec::ArrayVec;
 use stack::memory::Stack;
 
 mod calls;
 
-// A table of lines in the order in which they came: the first `count` of `lines` are buffered.
+// A table of lines in the order in which they came.
 #[derive(Drop)]
 struct LineTable {
-    lines: [BufferedLine; 16],
-    count: usize,
-    ghost room: { (length lines ≡ 16) × (count ≤ 16) },
-    ghost order: { orderly (take count lines) ≡ true },
+    lines: ArrayVec<BufferedLine, 16>,
+    ghost order: { orderly lines.items ≡ true },
 }
 
 // Buffers up to 16 whole lines of the banks from 64 on. A buffered line is kept and shown as buffered.

@@ -1,13 +1,16 @@
 // A fault of one byte, and what it does to the bytes that are shown.
 ghost use Rattle.std.specs.Prelude.{◌≡◌};
 ghost use Rattle.stack.specs.Memory.{spans};
-ghost use Rattle.layers.specs.Faults.{acts, altered, masked, outlasts};
+ghost use Rattle.layers.specs.Places.{fault_place};
+ghost use Rattle.layers.specs.Faults.{acts, aged, altered, masked, outlasts};
 
 use stack::located::Located;
+use stack::place::Place;
 
-#[derive(Clone, Copy, PartialEq, Eq, Debug)]
+#[derive(Clone, Copy, PartialEq, Eq, Debug, Default)]
 pub enum FaultKind {
     // the mask's bits are inverted
+    #[default]
     Flip,
     // the mask's bits read as one
     StuckAtOne,
@@ -16,7 +19,7 @@ pub enum FaultKind {
 }
 
 // A fault at a place. It acts once `delay` intervals have gone by.
-#[derive(Clone, Copy, PartialEq, Eq, Debug)]
+#[derive(Clone, Copy, PartialEq, Eq, Debug, Default)]
 pub struct Fault {
     pub bank: usize,
     pub index: usize,
@@ -40,11 +43,14 @@ impl Located for Fault {
     }
 }
 
-// Whether (b, i, k) is one of `count` neighbouring bytes.
-fn is_in(bank: usize, index: usize, from: usize, count: usize, b: usize, i: usize, k: usize) -> bool
-    ensures tells { result ≡ spans bank index from count b i k }
+// Whether a place is one of `count` neighbouring bytes.
+fn is_in(at: Place, count: usize, place: Place) -> bool
+    ensures tells { result ≡ spans at.bank at.index at.byte count place.bank place.index place.byte }
 {
-    bank == b && index == i && k >= from && k - from < count
+    at.bank == place.bank
+        && at.index == place.index
+        && place.byte >= at.byte
+        && place.byte - at.byte < count
 }
 
 // The byte that `v` becomes under a mask.
@@ -66,20 +72,38 @@ impl Fault {
         under_mask(self.kind, self.mask, v)
     }
 
-    // Whether the fault acts, and does so on one of those bytes.
-    pub fn acts_on(&self, bank: usize, index: usize, from: usize, count: usize) -> bool
-        ensures tells { result ≡ acts self.now bank index from count }
+    // The place whose byte it is of.
+    pub(crate) fn place(&self) -> Place
+        ensures is_its_place { result ≡ fault_place self.now }
     {
-        self.delay == 0 && is_in(bank, index, from, count, self.bank, self.index, self.byte)
+        Place {
+            bank: self.bank,
+            index: self.index,
+            byte: self.byte,
+        }
+    }
+
+    // Whether the fault acts, and does so on one of those bytes.
+    pub fn acts_on(&self, at: Place, count: usize) -> bool
+        ensures tells { result ≡ acts self.now at.bank at.index at.byte count }
+    {
+        self.delay == 0 && is_in(at, count, self.place())
     }
 
     // Whether a put on those bytes leaves the fault.
-    pub fn outlasts(&self, bank: usize, index: usize, from: usize, count: usize) -> bool
-        ensures tells { result ≡ outlasts bank index from count self.now }
+    pub fn outlasts(&self, at: Place, count: usize) -> bool
+        ensures tells { result ≡ outlasts at.bank at.index at.byte count self.now }
     {
         match self.kind {
-            FaultKind::Flip => !self.acts_on(bank, index, from, count),
-            _ => true,
+            FaultKind::Flip => !self.acts_on(at, count),
+            FaultKind::StuckAtOne | FaultKind::StuckAtZero => true,
         }
+    }
+
+    // Lets an interval go by: a delay above 0 falls by one.
+    pub(crate) fn age(&mut self)
+        ensures ages { self.new ≡ aged self.old }
+    {
+        self.delay = self.delay.saturating_sub(1);
     }
 }

@@ -1,17 +1,14 @@
 // A memory with faults in the bytes that it shows.
-ghost use Rattle.std.specs.Prelude.{◌≡◌, ◌≤◌, length};
-
 use super::fault::Fault;
+use arrayvec::ArrayVec;
 use stack::memory::Stack;
 
 mod calls;
 
-// A table of faults in the order in which they were made: the first `count` of `faults` stand.
+// A table of faults in the order in which they were made.
 #[derive(Drop)]
 struct FaultTable {
-    faults: [Fault; 64],
-    count: usize,
-    ghost room: { (length faults ≡ 64) × (count ≤ 64) },
+    faults: ArrayVec<Fault, 64>,
 }
 
 // Keeps what the memory below keeps, and shows it under the faults of a table.

@@ -1,7 +1,11 @@
 // A line that is buffered, with the bank and the index that it belongs to.
-use stack::located::Located;
+ghost use Rattle.std.specs.Prelude.{◌≡◌};
+ghost use Rattle.layers.specs.Places.{line_start};
 
-#[derive(Clone, Copy)]
+use stack::located::Located;
+use stack::place::Place;
+
+#[derive(Clone, Copy, PartialEq, Eq, Debug, Default)]
 pub struct BufferedLine {
     pub bank: usize,
     pub index: usize,
@@ -19,5 +23,18 @@ impl Located for BufferedLine {
 
     fn index(&self) -> usize {
         self.index
+    }
+}
+
+impl BufferedLine {
+    // Where its bytes begin.
+    pub(crate) fn start(&self) -> Place
+        ensures is_the_first_byte { result ≡ line_start self.now }
+    {
+        Place {
+            bank: self.bank,
+            index: self.index,
+            byte: 0,
+        }
     }
 }

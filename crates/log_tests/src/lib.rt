@@ -16,14 +16,6 @@ mod tests {
         value: 0,
     };
 
-    // What noting answers, by the refusal's number; 0 where it is accepted.
-    fn answered(answer: Result<(), Refusal>) -> u8 {
-        match answer {
-            Ok(()) => 0,
-            Err(refusal) => refusal.number(),
-        }
-    }
-
     #[test]
     fn only_findings_and_failed_rebuilds_are_noted(rt: HostRuntime) {
         let mut notes = [BLANK; 4];
@@ -31,38 +23,40 @@ mod tests {
             notes: &mut notes,
             used: 0,
         };
-        assert_eq!(rt; answered(log.note(130, &Ok(Finding::Clean))), 0);
-        assert_eq!(rt; answered(log.note(130, &Err(Refusal::LineLength))), 0);
+        assert_eq!(rt; log.note(130, &Ok(Finding::Clean)), Ok(()));
+        assert_eq!(rt; log.note(130, &Err(Refusal::LineLength)), Ok(()));
         assert_eq!(rt; log.used, 0);
+        assert_eq!(rt; log.note(130, &Ok(Finding::Corrected((65, 7)))), Ok(()));
+        assert_eq!(rt; log.note(131, &Ok(Finding::Rebuilt)), Ok(()));
         assert_eq!(rt;
-            answered(log.note(130, &Ok(Finding::Corrected((65, 7))))),
-            0
-        );
-        assert_eq!(rt; answered(log.note(131, &Ok(Finding::Rebuilt))), 0);
-        assert_eq!(rt;
-            answered(log.note(131, &Ok(Finding::RebuiltCorrected((3, 9))))),
-            0
+            log.note(131, &Ok(Finding::RebuiltCorrected((3, 9)))),
+            Ok(())
         );
         assert_eq!(rt;
-            answered(log.note(2, &Err(Refusal::RebuildFailed { address: 2 }))),
-            0
+            log.note(2, &Err(Refusal::RebuildFailed { address: 2 })),
+            Ok(())
         );
         assert_eq!(rt; log.used, 4);
         assert_eq!(rt;
-            answered(log.note(2, &Err(Refusal::RebuildFailed { address: 2 }))),
-            13
+            log.note(2, &Err(Refusal::RebuildFailed { address: 2 }))
+                .map_err(|refusal| refusal.number()),
+            Err(13)
         );
-        assert_eq!(rt; answered(log.note(2, &Ok(Finding::Clean))), 0);
+        assert_eq!(rt; log.note(2, &Ok(Finding::Clean)), Ok(()));
         assert!(rt; log.tally(2) == 2 && log.tally(3) == 2 && log.tally(200) == 0);
         assert_eq!(rt; log.worst(), Some(2));
         assert_eq!(rt; log.first(3, 2), Some(1));
         assert_eq!(rt; log.first(2, 1), None);
         assert_eq!(rt; log.share(2), 500);
-        assert!(rt;
-            notes[0].bank == 2
-                && notes[0].index == 2
-                && notes[0].symbol == 65
-                && notes[0].value == 7
+        assert_eq!(rt;
+            notes[0],
+            Note {
+                bank: 2,
+                index: 2,
+                kind: Kind::Corrected,
+                symbol: 65,
+                value: 7,
+            }
         );
         assert_eq!(rt; notes[3].kind.number(), 4);
     }
@@ -87,7 +81,11 @@ mod tests {
             notes: &mut notes,
             used: usize::MAX,
         };
-        assert_eq!(rt; answered(log.note(1, &Ok(Finding::Rebuilt))), 13);
+        assert_eq!(rt;
+            log.note(1, &Ok(Finding::Rebuilt))
+                .map_err(|refusal| refusal.number()),
+            Err(13)
+        );
         assert_eq!(rt; log.used, usize::MAX);
         assert_eq!(rt; log.tally(200), 2);
         log.used = 0;

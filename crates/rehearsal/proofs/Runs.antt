@@ -1,10 +1,10 @@
 -- A list of calls run one after the other.
-use Rattle.std.proofs.Common.{◌≡◌, ℕ, zero, suc, ◌+◌, ◌-◌, ◌<◌, ◌≤◌, List, ◌∷◌, length, get_or, drop, set, sym, refl, ap, ◌∙◌, subst, ap₂, add-one, arith, Bor}
+use Rattle.std.proofs.Common.{◌≡◌, ℕ, zero, suc, ◌+◌, ◌-◌, ◌<◌, ◌≤◌, List, ◌∷◌, length, get_or, drop, set, sym, refl, ap, ◌∙◌, subst, ap₂, add-one, arith, Bor, Ok}
 use Rattle.std.proofs.lemmas.List.{drop-drop, drop-set-lt, get_or-set_other, get_or-set_same}
 use Rattle.stack.specs.declared.memory.Stack.{Ghosts}
 use Rattle.rules.specs.History.{Event}
-use Rattle.rules.specs.declared.calls.Answer.{Answer}
-use Rattle.rules.specs.declared.calls.Answer.TheVariants.{Done}
+use Rattle.rules.specs.Answers.{Answer}
+use Rattle.rules.specs.declared.calls.Outcome.TheVariants.{Done}
 use Rattle.rules.specs.declared.calls.Call.{Call}
 use Rattle.rules.specs.declared.calls.Call.TheVariants.{Read}
 use Rattle.board.specs.declared.board.Board.{Board}
@@ -17,14 +17,14 @@ module _ (cs : List (Call (Bor (List ℕ)))) where
   unfolding first_events
   events_before rs zero i r h = refl
   events_before rs (suc n) i r h =
-      ap₂ (λ (x : Answer) (es : List Event). record { call = heard (get_or cs n (Read 0 0)); answer = x } ∷ es) (get_or-set_other rs i n r Done (λ e. omega arith)) (events_before rs n i r (omega arith))
+      ap₂ (λ (x : Answer) (es : List Event). record { call = heard (get_or cs n (Read 0 0)); answer = x } ∷ es) (get_or-set_other rs i n r (Ok Done) (λ e. omega arith)) (events_before rs n i r (omega arith))
 
   events_more : (rs : List Answer) (i : ℕ) (r : Answer) → i < length rs
       → first_events cs (set rs i r) (i + 1) ≡ record { call = heard (get_or cs i (Read 0 0)); answer = r } ∷ first_events cs rs i
   unfolding first_events
   events_more rs i r h =
       ap (first_events cs (set rs i r)) (add-one i)
-      ∙ ap₂ (λ (x : Answer) (es : List Event). record { call = heard (get_or cs i (Read 0 0)); answer = x } ∷ es) (get_or-set_same rs i r Done h) (events_before rs i i r (omega arith))
+      ∙ ap₂ (λ (x : Answer) (es : List Event). record { call = heard (get_or cs i (Read 0 0)); answer = x } ∷ es) (get_or-set_same rs i r (Ok Done) h) (events_before rs i i r (omega arith))
 
   module _ {X : Type 0} (G : Ghosts X) (b : Board X) where
     pub ran_none : (rs : List Answer) → RanOn G b (first_events cs rs 0) b

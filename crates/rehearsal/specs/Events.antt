@@ -1,10 +1,10 @@
 -- Lists of calls as a host gives them, with the answers that it got.
-use Rattle.std.specs.Prelude.{◌≡◌, ℕ, zero, suc, min, List, [], ◌∷◌, length, drop, slice_index_or}
+use Rattle.std.specs.Prelude.{◌≡◌, ℕ, zero, suc, min, List, [], ◌∷◌, length, drop, slice_index_or, Ok}
 use Rattle.std.specs.Borrow.{Bor}
 use Rattle.rules.specs.Rules.{HostCall}
 use Rattle.rules.specs.History.{Event}
-use Rattle.rules.specs.declared.calls.Answer.{Answer}
-use Rattle.rules.specs.declared.calls.Answer.TheVariants.{Done}
+use Rattle.rules.specs.Answers.{Answer}
+use Rattle.rules.specs.declared.calls.Outcome.TheVariants.{Done}
 use Rattle.rules.specs.declared.calls.Call.{Call}
 use Rattle.rules.specs.declared.calls.Call.TheVariants.{Read, Write, Renew, Clear, Scrub, Mark, Settle, Pass}
 
@@ -25,7 +25,7 @@ Calls = List (Call (Bor (List ℕ)))
 -- the first n calls and answers, the latest first
 unfoldable pub first_events : Calls → List Answer → ℕ → List Event
 first_events calls answers zero = []
-first_events calls answers (suc n) = record { call = heard (slice_index_or calls n (Read 0 0)); answer = slice_index_or answers n Done } ∷ first_events calls answers n
+first_events calls answers (suc n) = record { call = heard (slice_index_or calls n (Read 0 0)); answer = slice_index_or answers n (Ok Done) } ∷ first_events calls answers n
 
 -- as many calls as there is room for answers
 abbrev pub events : Calls → List Answer → List Event

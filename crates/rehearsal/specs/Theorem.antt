@@ -4,7 +4,7 @@ use Rattle.stack.specs.declared.memory.Stack.{Ghosts}
 use Rattle.rules.specs.Rules.{State, answer}
 use Rattle.rules.specs.History.{Event, NoneNamed, Tolerable, ledger}
 use Rattle.rules.specs.Theorem.{Equal, ReadsBack, SameLines, line_handed}
-use Rattle.rules.specs.declared.calls.Answer.{Answer}
+use Rattle.rules.specs.Answers.{Answer}
 use Rattle.rules.specs.declared.calls.Call.TheVariants.{Read}
 use Rattle.board.specs.State.{state}
 use Rattle.board.specs.declared.board.Board.{Board}

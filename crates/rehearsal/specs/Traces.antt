@@ -4,7 +4,7 @@ use Rattle.stack.specs.declared.memory.Stack.{Ghosts}
 use Rattle.rules.specs.Rules.{HostCall}
 use Rattle.rules.specs.History.{Event, Formatted, Named, Step, Tolerable}
 use Rattle.rules.specs.Theorem.{refusal_in, ruled_refusal}
-use Rattle.rules.specs.declared.calls.Answer.{Answer}
+use Rattle.rules.specs.Answers.{Answer}
 use Rattle.rules.specs.declared.calls.Call.TheVariants.{Read, Write, Renew, Clear, Scrub, Mark, Settle, Pass}
 use Rattle.board.specs.State.{state, PutsOf, FormatRun}
 use Rattle.board.specs.declared.board.Board.{Board}

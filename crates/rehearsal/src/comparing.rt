@@ -13,15 +13,8 @@ use stack::memory::Stack;
 pub fn same_lines<A: Stack, B: Stack>(left: &Board<A>, right: &Board<B>) -> bool
     ensures tells_exactly { ExactlyWhen (T result) (ReadsEqual (state A.Stack left.now) (state B.Stack right.now)) }
 {
-    if left.size() != right.size() {
-        return false;
-    }
-    for address in 0..64 * left.size() {
-        if !same_line(left, right, address) {
-            return false;
-        }
-    }
-    true
+    left.size() == right.size()
+        && (0..64 * left.size()).all(|address| same_line(left, right, address))
 }
 
 // Whether they hand out the same line at one address, or neither does.

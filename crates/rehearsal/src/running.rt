@@ -7,7 +7,7 @@ ghost use Rattle.rehearsal.specs.Events.{heard, events, LeavesRest};
 ghost use Rattle.rehearsal.specs.Traces.{Called, RanOn};
 
 use board::board::Board;
-use rules::calls::{Answer, Call};
+use rules::calls::{Answer, Call, Outcome};
 use stack::memory::Stack;
 
 // Runs calls on a board, as many as there is room for answers, and collects the answers.
@@ -15,8 +15,10 @@ pub fn run<S: Stack>(board: &mut Board<S>, calls: &[Call<&[u8]>], answers: &mut 
     ensures runs_in_order { RanOn S.Stack board.old (events calls.now answers.new) board.new }
     ensures leaves_the_other_answers { LeavesRest calls.now answers.old answers.new }
 {
-    for i in 0..calls.len().min(answers.len()) {
-        answers[i] = perform(board, &calls[i]);
+    let count = calls.len().min(answers.len());
+    // no `zip` over `iter_mut`: a proof knows nothing then of what it wrote
+    for (i, call) in calls[..count].iter().enumerate() {
+        answers[i] = perform(board, call);
     }
 }
 
@@ -26,33 +28,18 @@ pub fn perform<S: Stack>(board: &mut Board<S>, call: &Call<&[u8]>) -> Answer
 {
     match *call {
         Call::Read { address, length } => read(board, address, length),
-        Call::Write { address, line } => {
-            match board.write(address, line) {
-                Ok(finding) => Answer::Written(finding),
-                Err(refusal) => Answer::Refused(refusal),
-            }
-        }
-        Call::Renew { address, line } => {
-            match board.renew(address, line) {
-                Ok(()) => Answer::Renewed,
-                Err(refusal) => Answer::Refused(refusal),
-            }
-        }
-        Call::Clear { address } => {
-            match board.clear(address) {
-                Ok(()) => Answer::Cleared,
-                Err(refusal) => Answer::Refused(refusal),
-            }
-        }
+        Call::Write { address, line } => board.write(address, line).map(Outcome::Written),
+        Call::Renew { address, line } => board.renew(address, line).map(|()| Outcome::Renewed),
+        Call::Clear { address } => board.clear(address).map(|()| Outcome::Cleared),
         Call::Scrub { address, length } => scrub(board, address, length),
         Call::Mark { bank, length } => mark(board, bank, length),
         Call::Settle => {
             board.settle();
-            Answer::Done
+            Ok(Outcome::Done)
         }
         Call::Pass => {
             board.pass();
-            Answer::Done
+            Ok(Outcome::Done)
         }
     }
 }
@@ -62,15 +49,12 @@ fn read<S: Stack>(board: &Board<S>, address: usize, length: usize) -> Answer
     ensures answers_as_ruled { result ≡ answer (state S.Stack board.now) (ReadCall address length) }
 {
     let mut line = [0u8; 64];
-    let done = if length == 64 {
-        board.read(address, &mut line)
+    let finding = if length == 64 {
+        board.read(address, &mut line)?
     } else {
-        board.read(address, &mut [])
+        board.read(address, &mut [])?
     };
-    match done {
-        Ok(finding) => Answer::HandedOut(line, finding),
-        Err(refusal) => Answer::Refused(refusal),
-    }
+    Ok(Outcome::HandedOut(line, finding))
 }
 
 // Scrubs with a work buffer of that length; beyond 4,096 bytes the length makes no difference.
@@ -78,11 +62,10 @@ fn scrub<S: Stack>(board: &mut Board<S>, address: usize, length: usize) -> Answe
     ensures scrubs { Did S.Stack board.old (ScrubCall address length) result board.new }
 {
     let mut work = [0u8; 4096];
-    let used = if length < 4096 { length } else { 4096 };
-    match board.scrub(address, &mut work[..used]) {
-        Ok(count) => Answer::Scrubbed(count),
-        Err(refusal) => Answer::Refused(refusal),
-    }
+    let used = length.min(work.len());
+    board
+        .scrub(address, &mut work[..used])
+        .map(Outcome::Scrubbed)
 }
 
 // Retires a bank with a work buffer of that length.
@@ -90,9 +73,6 @@ fn mark<S: Stack>(board: &mut Board<S>, bank: usize, length: usize) -> Answer
     ensures marks { Did S.Stack board.old (MarkCall bank length) result board.new }
 {
     let mut work = [0u8; 4096];
-    let used = if length < 4096 { length } else { 4096 };
-    match board.mark(bank, &mut work[..used]) {
-        Ok(spare) => Answer::Marked(spare),
-        Err(refusal) => Answer::Refused(refusal),
-    }
+    let used = length.min(work.len());
+    board.mark(bank, &mut work[..used]).map(Outcome::Marked)
 }

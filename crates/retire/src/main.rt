@@ -3,16 +3,17 @@
 
 mod text;
 
-use anyhow::anyhow;
 use board::board::Board;
+use codec::word::Line;
 use layers::buffer::WriteBuffer;
 use layers::fault::{Fault, FaultKind};
 use layers::injector::FaultInjector;
 use rehearsal::rehearse;
-use rules::calls::{Answer, Call};
+use rules::calls::{Answer, Call, Outcome};
 use stack::flat::bytes::ByteMemory;
 use stack::memory::Stack;
 use std::alloc::Global;
+use std::array;
 use text::Told;
 
 // The banks that fail, after one interval and after two.
@@ -45,12 +46,10 @@ fn run(rt: &HostRuntime) -> anyhow::Result<()> {
 }
 
 // A line of 64 bytes for each of 64 addresses.
-fn lines_to_store(heap: Global) -> anyhow::Result<Vec<u8>> {
+fn lines_to_store(heap: Global) -> anyhow::Result<Vec<Line>> {
     let mut lines = Vec::new(heap);
     for address in 0..64u8 {
-        for byte in 0..64u8 {
-            lines.push(address.wrapping_mul(3) ^ byte)?;
-        }
+        lines.push(array::from_fn(|k| address.wrapping_mul(3) ^ k as u8))?;
     }
     Ok(lines)
 }
@@ -82,16 +81,14 @@ fn strike(
         mask: 0x80,
         delay,
     };
-    match memory.strike(fault) {
-        Ok(()) => Ok(()),
-        Err(_) => Err(anyhow!("a fault was refused")),
-    }
+    memory.strike(fault)?;
+    Ok(())
 }
 
 // Stores a line at every address.
-fn fill<S: Stack>(rt: &HostRuntime, board: &mut Board<S>, lines: &[u8]) -> anyhow::Result<()> {
+fn fill<S: Stack>(rt: &HostRuntime, board: &mut Board<S>, lines: &[Line]) -> anyhow::Result<()> {
     let mut stored: usize = 0;
-    for (address, line) in lines.chunks(64).enumerate() {
+    for (address, line) in lines.iter().enumerate() {
         if board.write(address, line).is_ok() {
             stored = stored.saturating_add(1);
         }
@@ -112,32 +109,33 @@ fn retire<S: Stack>(rt: &HostRuntime, board: &mut Board<S>, bank: usize) -> anyh
     let mut work = [0; 4096];
     match board.mark(bank, &mut work) {
         Ok(spare) => println!(rt; "bank {bank} is retired; bank {spare} has its lines")?,
-        Err(e) => {
-            let number = e.number();
-            println!(rt; "bank {bank} cannot be retired: refused with {number}")?
-        }
+        Err(refusal) => println!(rt; "bank {bank} cannot be retired: {refusal}")?,
     }
     Ok(())
 }
 
 // How many lines are read back as they were stored.
-fn count_same<S: Stack>(board: &Board<S>, lines: &[u8]) -> usize {
-    let mut same: usize = 0;
-    for (address, stored) in lines.chunks(64).enumerate() {
+fn count_same<S: Stack>(board: &Board<S>, lines: &[Line]) -> usize {
+    let is_same = |address: usize, stored: &Line| {
         let mut line = [0; 64];
-        if board.read(address, &mut line).is_ok() && stored == &line[..] {
-            same = same.saturating_add(1);
-        }
-    }
-    same
+        board.read(address, &mut line).is_ok() && line == *stored
+    };
+    lines
+        .iter()
+        .enumerate()
+        .filter(|(address, stored)| is_same(*address, stored))
+        .count()
 }
 
 // The same calls as a list, on a board with a write buffer and on one without.
-fn print_rehearsal(rt: &HostRuntime, lines: &[u8]) -> anyhow::Result<()> {
+fn print_rehearsal(rt: &HostRuntime, lines: &[Line]) -> anyhow::Result<()> {
     let heap = rt.alloc();
     let mut calls = Vec::new(heap);
-    for (address, line) in lines.chunks(64).enumerate() {
-        calls.push(Call::Write { address, line })?;
+    for (address, line) in lines.iter().enumerate() {
+        calls.push(Call::Write {
+            address,
+            line: line.as_slice(),
+        })?;
     }
     calls.push(Call::Settle)?;
     for bank in [FIRST, SECOND] {
@@ -149,8 +147,8 @@ fn print_rehearsal(rt: &HostRuntime, lines: &[u8]) -> anyhow::Result<()> {
         calls.push(Call::Mark { bank, length: 4096 })?;
     }
     let count = calls.len();
-    let mut answers = vec![in heap; Answer::Done; count]?;
-    let mut replies = vec![in heap; Answer::Done; count]?;
+    let mut answers = vec![in heap; Ok(Outcome::Done); count]?;
+    let mut replies = vec![in heap; Ok(Outcome::Done); count]?;
     let buffered = WriteBuffer::new(failing_memory(heap)?);
     let plain = failing_memory(heap)?;
     let both = rehearse(
@@ -175,12 +173,5 @@ fn print_rehearsal(rt: &HostRuntime, lines: &[u8]) -> anyhow::Result<()> {
 }
 
 fn count_accepted(answers: &[Answer]) -> usize {
-    let mut accepted: usize = 0;
-    for answer in answers {
-        match answer {
-            Answer::Refused(_) => {}
-            _ => accepted = accepted.saturating_add(1),
-        }
-    }
-    accepted
+    answers.iter().filter(|answer| answer.is_ok()).count()
 }

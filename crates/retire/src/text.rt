@@ -17,10 +17,7 @@ impl fmt::Display for Told {
                 f,
                 "rebuilt from its group and corrected in symbol {s} by {x:02X}"
             ),
-            Err(e) => {
-                let number = e.number();
-                write!(f, "refused with {number}")
-            }
+            Err(refusal) => write!(f, "{refusal}"),
         }
     }
 }

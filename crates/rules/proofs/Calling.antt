@@ -1,5 +1,5 @@
 -- The step of any call, with its chain of puts: refused, or accepted.
-use Rattle.std.proofs.Common.{◌≡◌, ℕ, zero, suc, ◌+◌, ◌-◌, ◌*◌, ◌<◌, ◌≤◌, true, false, List, [], ◌∷◌, ◌++◌, map, length, get_or, Some, None, Option, sym, refl, ap, ◌∙◌, subst, zero-add, add-one, arith}
+use Rattle.std.proofs.Common.{◌≡◌, ℕ, zero, suc, ◌+◌, ◌-◌, ◌*◌, ◌<◌, ◌≤◌, true, false, List, [], ◌∷◌, ◌++◌, map, length, get_or, Some, None, Option, sym, refl, ap, ◌∙◌, subst, zero-add, add-one, arith, Ok, Err}
 use lib.Bits.{bit_xor}
 use Rattle.std.specs.List.{range_with_len}
 use Rattle.std.proofs.lemmas.List.{append-nil, append_assoc}
@@ -14,8 +14,8 @@ use Rattle.rules.specs.History.{Formatted, Given, Step, marks_after}
 use Rattle.rules.specs.Places.{bank_of, index_of, role}
 use Rattle.rules.specs.Rules.{HostCall, Part, State, accepted, along, along_banks, answer, argument_check, by_partner, denied, line_of, lowest, obtained, or_refused, partners, partners_byte, plan, puts, reading, shown_parity, store_part, when, write_answer}
 use Rattle.rules.specs.Work.{formatting, storing}
-use Rattle.rules.specs.declared.calls.Answer.{Answer}
-use Rattle.rules.specs.declared.calls.Answer.TheVariants.{Refused, Renewed, Written}
+use Rattle.rules.specs.Answers.{Answer}
+use Rattle.rules.specs.declared.calls.Outcome.TheVariants.{Renewed, Written}
 use Rattle.rules.specs.declared.calls.Call.TheVariants.{Clear, Mark, Pass, Read, Renew, Scrub, Settle, Write}
 use Rattle.stack.proofs.RunLaws.{puts_join, run_kept, run_size}
 use Rattle.stack.specs.Memory.{Meaning, Piece, Rest}
@@ -36,13 +36,13 @@ marks_stay s Settle e = refl
 marks_stay s Pass e = refl
 
 module _ {X : Type 0} (G : Ghosts X) where
-  pub call_refused : (x : X) (ms : List ℕ) (c : HostCall) (e : Refusal) → Given c → answer (board (G.means x) ms) c ≡ Refused e
-      → Step (board (G.means x) ms) c (Refused e) (board (G.means x) ms) × InOrder G.means G.puts x (puts (board (G.means x) ms) c) x
+  pub call_refused : (x : X) (ms : List ℕ) (c : HostCall) (e : Refusal) → Given c → answer (board (G.means x) ms) c ≡ Err e
+      → Step (board (G.means x) ms) c (Err e) (board (G.means x) ms) × InOrder G.means G.puts x (puts (board (G.means x) ms) c) x
   call_refused x ms c e g q =
       let no : accepted (answer (board (G.means x) ms) c) ≡ false = ap accepted q in
       let chain : InOrder G.means G.puts x (puts (board (G.means x) ms) c) x =
       subst (λ ps. InOrder G.means G.puts x ps x) (sym (cond-false (accepted (answer (board (G.means x) ms) c)) _ [] no)) done in
-      (step_by_puts G x x ms ms c (Refused e) g (sym q) (marks_stay (board (G.means x) ms) c no) chain (shown_small G x), chain)
+      (step_by_puts G x x ms ms c (Err e) g (sym q) (marks_stay (board (G.means x) ms) c no) chain (shown_small G x), chain)
 
   pub call_done : (x y : X) (ms ms' : List ℕ) (c : HostCall) (r : Answer) → Given c → answer (board (G.means x) ms) c ≡ r → accepted r ≡ true
       → ms' ≡ marks_after (board (G.means x) ms) c
@@ -59,7 +59,7 @@ module _ {X : Type 0} (G : Ghosts X) where
       → ((k : ℕ) → get_or l k 0 < 256) → reading (board (G.means x) ms) a ≡ obtained old f
       → par ≡ map (λ k. bit_xor (bit_xor (shown_parity (board (G.means x) ms) a k) (get_or old k 0)) (get_or l k 0)) (range_with_len 0 64)
       → ms' ≡ ms → InOrder G.means G.puts x (along_banks (storing ms (bank_of a) l par) (index_of a) (range_with_len 0 72)) y
-      → Step (board (G.means x) ms) (Write a l) (Written f) (board (G.means y) ms') × InOrder G.means G.puts x (puts (board (G.means x) ms) (Write a l)) y
+      → Step (board (G.means x) ms) (Write a l) (Ok (Written f)) (board (G.means y) ms') × InOrder G.means G.puts x (puts (board (G.means x) ms) (Write a l)) y
   write_done x y ms ms' a l old par f h n by q p m ch =
       let s : State = board (G.means x) ms in
       let passed : argument_check (G.means x).size ms (Write a l) ≡ None = rw (lt-ltb a (64 * (G.means x).size) (omega arith), eq-eqb (length l) 64 n) refl in
@@ -69,7 +69,7 @@ module _ {X : Type 0} (G : Ghosts X) where
       (λ j b ne. ap (λ t. when t (store_part ms (bank_of a) l (full (line_of (reading s a))) (role ms b))) (ne_eqb j (index_of a) ne))
       ∙ ap (λ t. along_banks (λ b. when t (store_part ms (bank_of a) l (full (line_of (reading s a))) (role ms b))) (index_of a) (range_with_len 0 72)) (eq-eqb (index_of a) (index_of a) refl)
       ∙ ap (λ o. along_banks (storing ms (bank_of a) l o) (index_of a) (range_with_len 0 72)) (ap (λ o. full (line_of o)) q ∙ sym p) in
-      call_done x y ms ms' (Write a l) (Written f) by
+      call_done x y ms ms' (Write a l) (Ok (Written f)) by
       (ap (λ o. or_refused o (write_answer (reading s a))) passed ∙ ap write_answer q) refl m
       (subst (λ ps. InOrder G.means G.puts x ps y) (sym same) ch)
 
@@ -77,7 +77,7 @@ module _ {X : Type 0} (G : Ghosts X) where
       → ((k : ℕ) → get_or l k 0 < 256) → lowest (board (G.means x) ms) (partners ms a) ≡ None
       → par ≡ map (λ k. bit_xor (get_or l k 0) (partners_byte (board (G.means x) ms) a k)) (range_with_len 0 64)
       → ms' ≡ ms → InOrder G.means G.puts x (along_banks (storing ms (bank_of a) l par) (index_of a) (range_with_len 0 72)) y
-      → Step (board (G.means x) ms) (Renew a l) Renewed (board (G.means y) ms') × InOrder G.means G.puts x (puts (board (G.means x) ms) (Renew a l)) y
+      → Step (board (G.means x) ms) (Renew a l) (Ok Renewed) (board (G.means y) ms') × InOrder G.means G.puts x (puts (board (G.means x) ms) (Renew a l)) y
   renew_done x y ms ms' a l par h n by q p m ch =
       let s : State = board (G.means x) ms in
       let passed : argument_check (G.means x).size ms (Renew a l) ≡ None = rw (lt-ltb a (64 * (G.means x).size) (omega arith), eq-eqb (length l) 64 n) refl in
@@ -87,30 +87,30 @@ module _ {X : Type 0} (G : Ghosts X) where
       (λ j b ne. ap (λ t. when t (store_part ms (bank_of a) l full (role ms b))) (ne_eqb j (index_of a) ne))
       ∙ ap (λ t. along_banks (λ b. when t (store_part ms (bank_of a) l full (role ms b))) (index_of a) (range_with_len 0 72)) (eq-eqb (index_of a) (index_of a) refl)
       ∙ ap (λ o. along_banks (storing ms (bank_of a) l o) (index_of a) (range_with_len 0 72)) (sym p) in
-      call_done x y ms ms' (Renew a l) Renewed by
-      (ap (λ o. or_refused o (or_refused (by_partner a (lowest s (partners ms a))) Renewed)) passed ∙ ap (λ o. or_refused (by_partner a o) Renewed) q) refl m
+      call_done x y ms ms' (Renew a l) (Ok Renewed) by
+      (ap (λ o. or_refused o (or_refused (by_partner a (lowest s (partners ms a))) (Ok Renewed))) passed ∙ ap (λ o. or_refused (by_partner a o) (Ok Renewed)) q) refl m
       (subst (λ ps. InOrder G.means G.puts x ps y) (sym same) ch)
 
 -- refusals of write and renew, by their argument checks and past them
 module _ (m : Meaning) (ms : List ℕ) (a : ℕ) (l : List ℕ) where
-  pub write_address : m.size ≤ index_of a → answer (board m ms) (Write a l) ≡ Refused AddressOutOfRange
+  pub write_address : m.size ≤ index_of a → answer (board m ms) (Write a l) ≡ Err AddressOutOfRange
   write_address h = rw (le-ltb a (64 * m.size) (omega arith)) refl
 
-  pub write_buffer : index_of a < m.size → (length l ≡ 64 → ⊥) → answer (board m ms) (Write a l) ≡ Refused LineLength
+  pub write_buffer : index_of a < m.size → (length l ≡ 64 → ⊥) → answer (board m ms) (Write a l) ≡ Err LineLength
   write_buffer h n = rw (lt-ltb a (64 * m.size) (omega arith), ne_eqb (length l) 64 n) refl
 
-  pub write_denied : (e : Refusal) → index_of a < m.size → length l ≡ 64 → reading (board m ms) a ≡ denied e → answer (board m ms) (Write a l) ≡ Refused e
+  pub write_denied : (e : Refusal) → index_of a < m.size → length l ≡ 64 → reading (board m ms) a ≡ denied e → answer (board m ms) (Write a l) ≡ Err e
   write_denied e h n q = rw (lt-ltb a (64 * m.size) (omega arith), eq-eqb (length l) 64 n) (ap write_answer q)
 
-  pub renew_address : m.size ≤ index_of a → answer (board m ms) (Renew a l) ≡ Refused AddressOutOfRange
+  pub renew_address : m.size ≤ index_of a → answer (board m ms) (Renew a l) ≡ Err AddressOutOfRange
   renew_address h = rw (le-ltb a (64 * m.size) (omega arith)) refl
 
-  pub renew_buffer : index_of a < m.size → (length l ≡ 64 → ⊥) → answer (board m ms) (Renew a l) ≡ Refused LineLength
+  pub renew_buffer : index_of a < m.size → (length l ≡ 64 → ⊥) → answer (board m ms) (Renew a l) ≡ Err LineLength
   renew_buffer h n = rw (lt-ltb a (64 * m.size) (omega arith), ne_eqb (length l) 64 n) refl
 
   pub renew_denied : (e : Refusal) → index_of a < m.size → length l ≡ 64 → by_partner a (lowest (board m ms) (partners ms a)) ≡ Some e
-      → answer (board m ms) (Renew a l) ≡ Refused e
-  renew_denied e h n q = rw (lt-ltb a (64 * m.size) (omega arith), eq-eqb (length l) 64 n) (ap (λ o. or_refused o Renewed) q)
+      → answer (board m ms) (Renew a l) ≡ Err e
+  renew_denied e h n q = rw (lt-ltb a (64 * m.size) (omega arith), eq-eqb (length l) 64 n) (ap (λ o. or_refused o (Ok Renewed)) q)
 
 -- FORMAT, AND INDEX AFTER INDEX
 

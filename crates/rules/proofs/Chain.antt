@@ -1,5 +1,5 @@
 -- A call's pieces, put one after the other, make its step.
-use Rattle.std.proofs.Common.{◌≡◌, ℕ, ◌*◌, ◌<◌, ◌≤◌, true, List, [], None, sym, refl, ap, ◌∙◌, inl, inr, arith}
+use Rattle.std.proofs.Common.{◌≡◌, ℕ, ◌*◌, ◌<◌, ◌≤◌, true, List, [], None, sym, refl, ap, ◌∙◌, inl, inr, arith, Ok, Err}
 use Rattle.std.specs.List.{range_with_len}
 use Rattle.std.proofs.lemmas.Bool.{cond-false, cond-true, cases_Bool, le-ltb, lt-ltb, eq-eqb, ne_eqb}
 use Rattle.rules.proofs.Laying.{lay, along_here, after_none}
@@ -7,8 +7,8 @@ use Rattle.rules.specs.Boards.{board}
 use Rattle.rules.specs.History.{Given, Step, marks_after}
 use Rattle.rules.specs.Places.{index_of}
 use Rattle.rules.specs.Rules.{HostCall, Outcome, State, accepted, along, answer, plan, puts, read_answer, reading}
-use Rattle.rules.specs.declared.calls.Answer.{Answer}
-use Rattle.rules.specs.declared.calls.Answer.TheVariants.{Done, Refused}
+use Rattle.rules.specs.Answers.{Answer}
+use Rattle.rules.specs.declared.calls.Outcome.TheVariants.{Done}
 use Rattle.rules.specs.declared.calls.Call.TheVariants.{Pass, Read, Settle}
 use Rattle.stack.proofs.RunLaws.{run_kept, run_shown, run_size}
 use Rattle.stack.specs.Memory.{Meaning, Place, Rest}
@@ -49,12 +49,12 @@ rest_kept m m' marks c none ok rest b i k p =
     ∙ ap (λ o. lay o k (m.kept b i k)) (none i b))
 
 pub pass_step : (m m' : Meaning) (marks : List ℕ) → Rest m m' → ((b i k : ℕ) → Place m'.size b i k → m'.shown b i k < 256)
-    → Step (board m marks) Pass Done (board m' marks)
+    → Step (board m marks) Pass (Ok Done) (board m' marks)
 pass_step m m' marks rest by =
     record { given = tt; says = refl; size = rest.size; marks = refl; kept = rest_kept m m' marks Pass (λ i b. refl) refl rest; shown = λ e. absurd e; bytes = by }
 
 pub settle_step : (m m' : Meaning) (marks : List ℕ) → Rest m m' → ((b i k : ℕ) → Place m'.size b i k → m'.shown b i k < 256)
-    → Step (board m marks) Settle Done (board m' marks)
+    → Step (board m marks) Settle (Ok Done) (board m' marks)
 settle_step m m' marks rest by =
     record { given = tt; says = refl; size = rest.size; marks = refl; kept = rest_kept m m' marks Settle (λ i b. refl) refl rest; shown = λ e. absurd e; bytes = by }
 
@@ -77,10 +77,10 @@ read_step m marks a n r by e =
 
 -- what a read answers
 module _ (s : State) (a n : ℕ) where
-  pub read_address : s.size ≤ index_of a → answer s (Read a n) ≡ Refused AddressOutOfRange
+  pub read_address : s.size ≤ index_of a → answer s (Read a n) ≡ Err AddressOutOfRange
   read_address h = rw (le-ltb a (64 * s.size) (omega arith)) refl
 
-  pub read_buffer : index_of a < s.size → (n ≡ 64 → ⊥) → answer s (Read a n) ≡ Refused LineLength
+  pub read_buffer : index_of a < s.size → (n ≡ 64 → ⊥) → answer s (Read a n) ≡ Err LineLength
   read_buffer h ne = rw (lt-ltb a (64 * s.size) (omega arith), ne_eqb n 64 ne) refl
 
   pub read_past : index_of a < s.size → n ≡ 64 → (o : Outcome) → reading s a ≡ o → answer s (Read a n) ≡ read_answer o

@@ -1,5 +1,5 @@
 -- A history with damage that is repaired: bank 5 fails and is retired, then bank 9.
-use Rattle.std.proofs.Common.{◌≡◌, ℕ, ◌+◌, ◌*◌, ◌/◌, ◌%◌, ◌<◌, ◌≤◌, Bool, true, false, cond, ◌||◌, eqb, ◌⊎◌, List, [], ◌∷◌, ◌++◌, get_or, None, sym, refl, ap, ◌∙◌, ap₂, inl, inr, arith}
+use Rattle.std.proofs.Common.{◌≡◌, ℕ, ◌+◌, ◌*◌, ◌/◌, ◌%◌, ◌<◌, ◌≤◌, Bool, true, false, cond, ◌||◌, eqb, ◌⊎◌, List, [], ◌∷◌, ◌++◌, get_or, None, sym, refl, ap, ◌∙◌, ap₂, inl, inr, arith, Ok, Err}
 use Rattle.std.proofs.lemmas.Bool.{cases_Bool, cond-true, cond-false, false≢true, true≢false, ne_eqb, eqb-true, or_from}
 use Rattle.codec.proofs.DecodingLaws.{distance_none}
 use Rattle.rules.proofs.Chain.{pass_step}
@@ -15,8 +15,8 @@ use Rattle.rules.specs.History.{Event, History, Named, NoneNamed, Tolerable, ent
 use Rattle.rules.specs.Places.{InUse, bank_of, check_in, image, index_of, line_bank, line_in, parity_bank, role, second_in, short}
 use Rattle.rules.specs.Rules.{State, accepted, answer, argument_check}
 use Rattle.rules.specs.Theorem.{Repaired, either_refusal, refusal_in}
-use Rattle.rules.specs.declared.calls.Answer.{Answer}
-use Rattle.rules.specs.declared.calls.Answer.TheVariants.{Cleared, Done, HandedOut, Marked, Refused, Renewed, Scrubbed, Written}
+use Rattle.rules.specs.Answers.{Answer}
+use Rattle.rules.specs.declared.calls.Outcome.TheVariants.{Done}
 use Rattle.rules.specs.declared.calls.Call.TheVariants.{Mark, Pass}
 use Rattle.stack.proofs.PieceLaws.{cells_same, getD_cells, length_cells}
 use Rattle.stack.specs.Memory.{Contents, cells}
@@ -93,14 +93,8 @@ module _ (f : ℕ → Bool) (s : State) (Z : Zeros f s) where
 
 -- an accepted call has no refusal, and the other way round
 no_refusal : (r : Answer) → refusal_in r ≡ None → accepted r ≡ true
-no_refusal (Refused e) q = let z : ◌≡◌ {A = ℕ} 0 1 = cc in absurd (omega arith)
-no_refusal (HandedOut l f) q = refl
-no_refusal (Written f) q = refl
-no_refusal Renewed q = refl
-no_refusal Cleared q = refl
-no_refusal (Scrubbed n) q = refl
-no_refusal (Marked b) q = refl
-no_refusal Done q = refl
+no_refusal (Err e) q = let z : ◌≡◌ {A = ℕ} 0 1 = cc in absurd (omega arith)
+no_refusal (Ok o) q = refl
 
 -- THE BOARDS, one index each
 
@@ -131,7 +125,7 @@ abbrev broken : State
 broken = record { size = 1; kept = λ b i k. 0; shown = ones five; marks = [] }
 
 abbrev passing : Event
-passing = record { call = Pass; answer = Done }
+passing = record { call = Pass; answer = Ok Done }
 
 failed : History broken (passing ∷ [])
 failed =

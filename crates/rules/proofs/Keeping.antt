@@ -17,7 +17,7 @@ use Rattle.codec.specs.declared.word.Finding.{Finding}
 use Rattle.rules.specs.History.{Formatted, Ledger, Named, Step, Tolerable, blank, enter, same_group, wrong}
 use Rattle.rules.specs.Places.{InUse, bank_of, group_of, image, index_of, members, parity_bank, role, without, xor_over}
 use Rattle.rules.specs.Rules.{HostCall, State, accepted, along, among, answer, argument_check, by_partner, decoded, filled, for_mark, line_of, lowest, obtained, of_group, or_refused, part, partners, partners_byte, past_checks, plan, reading, row, step_lowest, unless, when}
-use Rattle.rules.specs.declared.calls.Answer.{Answer}
+use Rattle.rules.specs.Answers.{Answer}
 use Rattle.rules.specs.declared.calls.Call.TheVariants.{Clear, Mark, Pass, Read, Renew, Scrub, Settle, Write}
 use Rattle.stack.specs.Memory.{Place}
 use Rattle.stack.specs.Pieces.{after}

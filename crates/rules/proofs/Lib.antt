@@ -8,7 +8,6 @@ pub mod Marking
 pub mod Keeping
 pub mod Main
 pub mod Chain
-pub mod Holding
 pub mod Wiping
 pub mod Storing
 pub mod Clearing

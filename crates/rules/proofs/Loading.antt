@@ -1,34 +1,12 @@
 -- Lines loaded into a work buffer, one after the other.
-use Rattle.std.proofs.Common.{◌≡◌, ℕ, suc, ◌+◌, ◌-◌, ◌*◌, ◌<◌, ◌≤◌, ◌⊎◌, List, [], ◌∷◌, ◌++◌, length, take, drop, replicate, Some, None, sym, refl, ap, ◌∙◌, ap₂, inl, inr, arith}
-use borrow.Rule.Slice.PartMut.{put_mid, post_of}
+use Rattle.std.proofs.Common.{◌≡◌, ℕ, suc, ◌+◌, ◌-◌, ◌*◌, ◌<◌, ◌⊎◌, List, [], ◌∷◌, ◌++◌, Some, None, sym, refl, ap, ◌∙◌, inl, inr, arith}
 use Rattle.std.specs.List.{range_with_len}
-use Rattle.std.proofs.lemmas.Bool.{cases_eq, cases_lt}
-use Rattle.std.proofs.lemmas.List.{length-take-le, take_at, drop_at}
-use Rattle.std.proofs.lemmas.Slice.{between_is, take-put_mid_below, drop-put_mid}
+use Rattle.std.proofs.lemmas.Bool.{cases_eq}
 use Rattle.rules.proofs.Gathering.{counting_split, addresses_append}
 use Rattle.codec.specs.declared.word.Finding.{Finding}
 use Rattle.rules.specs.Rules.{Outcome, addresses, denied, first_denied, line_of, obtained, step_first}
 use Rattle.rules.specs.Work.{Loaded, slot}
 use Rattle.stack.specs.declared.refusal.Refusal.{Refusal}
-
--- one slot written: it is that line, the others stay
-pub slot_same : (w line : List ℕ) (x n : ℕ) → n ≡ 64 → 64 * x ≤ length w → length line ≡ 64 → slot (put_mid (64 * x) n w line) x ≡ line
-slot_same w line x n e h l =
-    ap (take 64) (drop_at (take (64 * x) w) (line ++ post_of (64 * x) n w) (64 * x) (length-take-le (64 * x) w h))
-    ∙ take_at line (post_of (64 * x) n w) 64 l
-
-slot_between : (w : List ℕ) (y : ℕ) → slot w y ≡ drop (64 * y) (take (64 * y + 64) w)
-slot_between w y =
-    let e : 64 ≡ 64 * y + 64 - 64 * y = omega arith in
-    ap (λ n. take n (drop (64 * y) w)) e ∙ between_is w (64 * y) (64 * y + 64)
-
-pub slot_other : (w line : List ℕ) (x n y : ℕ) → n ≡ 64 → 64 * x ≤ length w → length line ≡ 64 → (y ≡ x → ⊥) → slot (put_mid (64 * x) n w line) y ≡ slot w y
-slot_other w line x n y e h l ne =
-    elim (cases_lt y x) [
-      | inl u ↦ slot_between (put_mid (64 * x) n w line) y
-          ∙ ap (drop (64 * y)) (take-put_mid_below (64 * x) n w line (64 * y + 64) (omega arith) h) ∙ sym (slot_between w y)
-      | inr u ↦ ap (take 64) (drop-put_mid (64 * x) n w line (64 * y) (omega arith) h (l ∙ sym e))
-    ]
 
 some_none : (e : Refusal) → Some e ≡ None → ⊥
 some_none e q = let z : ◌≡◌ {A = ℕ} 0 1 = cc in omega arith
@@ -98,14 +76,3 @@ module _ (g : ℕ → Outcome) (i lo : ℕ) where
       ap (λ m. first_denied g (addresses i (range_with_len lo m))) q ∙ ap (first_denied g) (more_split n (suc r))
       ∙ first_append g (addresses i (range_with_len lo n)) (addresses i (range_with_len (lo + n) (suc r))) h.none
       ∙ ap (λ z. step_first z (first_denied g (addresses i (range_with_len (lo + n + 1) r)))) o
-
--- a slot as the code cuts it
-pub slot_cut : (w : List ℕ) (x : ℕ) → take (64 * x + 64 - 64 * x) (drop (64 * x) w) ≡ slot w x
-slot_cut w x = let e : 64 * x + 64 - 64 * x ≡ 64 = omega arith in ap (λ n. take n (drop (64 * x) w)) e
-
--- the front of a buffer zeroed after it was used
-pub front_zeroed : (n : ℕ) (w used zeros : List ℕ) → n ≤ length w → length used ≡ n
-    → zeros ≡ replicate (length (take n (used ++ drop n w))) 0
-    → zeros ++ drop n (used ++ drop n w) ≡ replicate n 0 ++ drop n w
-front_zeroed n w used zeros h l e =
-    ap₂ (λ p q. p ++ q) (e ∙ ap (λ xs. replicate (length xs) 0) (take_at used (drop n w) n l) ∙ ap (λ m. replicate m 0) l) (drop_at used (drop n w) n l)

@@ -1,5 +1,5 @@
 -- The main theorem.
-use Rattle.std.proofs.Common.{◌≡◌, ℕ, ◌+◌, ◌*◌, ◌<◌, ◌≤◌, Bool, true, false, ltb, leb, List, [], ◌∷◌, Some, None, Option, sym, refl, ap, ◌∙◌, subst, inl, inr, arith}
+use Rattle.std.proofs.Common.{◌≡◌, ℕ, ◌+◌, ◌*◌, ◌<◌, ◌≤◌, Bool, true, false, ltb, leb, List, [], ◌∷◌, Some, None, Option, sym, refl, ap, ◌∙◌, subst, inl, inr, arith, Ok}
 use Rattle.std.specs.List.{range_with_len}
 use Rattle.std.proofs.lemmas.Bool.{cases_lt, lt-ltb, ltb-true, le-leb, lt-leb, cond-true, cond-false}
 use Rattle.rules.proofs.Xor.{Each, each_map, each_counting, each_addresses}
@@ -13,8 +13,8 @@ use Rattle.rules.specs.History.{Event, History, Ledger, Named, NoneNamed, Tolera
 use Rattle.rules.specs.Places.{InUse, bank_of, group_of, image, index_of, members, role}
 use Rattle.rules.specs.Rules.{HostCall, Outcome, State, answer, argument_check, by_partner, first_denied, for_mark, group, lowest, obtained, or_refused, partners, past_checks, read_answer, reading, step_first, step_lowest, unless, write_answer}
 use Rattle.rules.specs.Theorem.{ReadsBack, Ruled, Theorem, either_refusal, inside_refusal, line_handed, lowest_damaged, refusal_in, ruled_refusal}
-use Rattle.rules.specs.declared.calls.Answer.{Answer}
-use Rattle.rules.specs.declared.calls.Answer.TheVariants.{HandedOut, Renewed}
+use Rattle.rules.specs.Answers.{Answer}
+use Rattle.rules.specs.declared.calls.Outcome.TheVariants.{HandedOut, Renewed}
 use Rattle.rules.specs.declared.calls.Call.TheVariants.{Clear, Mark, Pass, Read, Renew, Scrub, Settle, Write}
 use Rattle.stack.specs.declared.refusal.Refusal.{Refusal}
 use Rattle.stack.specs.declared.refusal.Refusal.TheVariants.{AddressOutOfRange}
@@ -30,7 +30,7 @@ module _ (s : State) (B : Ledger) (A : Agrees s B) where
   unless_let false n rest e q = absurd (let z : ◌≡◌ {A = ℕ} 0 1 = cc in omega arith)
 
   -- a read in range hands out the line in the ledger
-  pub read_back : Tolerable NoneNamed s → (a : ℕ) → a < 64 * s.size → (f : Finding) × (answer s (Read a 64) ≡ HandedOut (B.lines a) f)
+  pub read_back : Tolerable NoneNamed s → (a : ℕ) → a < 64 * s.size → (f : Finding) × (answer s (Read a 64) ≡ Ok (HandedOut (B.lines a) f))
   read_back tolerable a h =
       let r = reading_right s B A NoneNamed tolerable a h (λ x. x) in (
         r.0,
@@ -81,7 +81,7 @@ module _ (s : State) (B : Ledger) (A : Agrees s B) where
       ap (λ z. refusal_in (write_answer z)) (reading_right s B A (Named (Write a l)) tolerable a h (λ x. x)).1
   ruled_inside (Renew a l) tolerable o =
       let h = ltb-true a (64 * s.size) (unless_open (ltb a (64 * s.size)) _ _ o).0 in
-      refused_by (by_partner a (lowest s (partners s.marks a))) Renewed refl
+      refused_by (by_partner a (lowest s (partners s.marks a))) (Ok Renewed) refl
       ∙ ap (by_partner a) (lowest_is (Named (Renew a l)) tolerable (λ b x. x) (partners s.marks a) (partners_in_range s s B A a h))
   ruled_inside (Clear a) tolerable o = refl
   ruled_inside (Scrub a w) tolerable o =

@@ -1,5 +1,5 @@
 -- The step of a mark.
-use Rattle.std.proofs.Common.{◌≡◌, ℕ, zero, suc, ◌+◌, ◌-◌, ◌*◌, ◌%◌, ◌<◌, ◌≤◌, Bool, true, false, cond, not, eqb, ltb, leb, List, [], ◌∷◌, ◌++◌, length, Some, None, Option, sym, refl, ap, ◌∙◌, subst, ap₂, arith}
+use Rattle.std.proofs.Common.{◌≡◌, ℕ, zero, suc, ◌+◌, ◌-◌, ◌*◌, ◌%◌, ◌<◌, ◌≤◌, Bool, true, false, cond, not, eqb, ltb, leb, List, [], ◌∷◌, ◌++◌, length, Some, None, Option, sym, refl, ap, ◌∙◌, subst, ap₂, arith, Ok, Err}
 use Rattle.std.specs.List.{range_with_len}
 use Rattle.std.proofs.lemmas.Bool.{lt-ltb, le-ltb, le-leb, lt-leb, cond-true}
 use Rattle.rules.proofs.Image.{image_cong}
@@ -14,7 +14,7 @@ use Rattle.rules.specs.History.{Step}
 use Rattle.rules.specs.Places.{bank_of, image, index_of, role}
 use Rattle.rules.specs.Rules.{Outcome, Part, accepted, addresses, along, along_banks, among, answer, argument_check, filled, first_denied, for_mark, line_of, or_refused, part, puts, row, spare_of, step_first, unless, when}
 use Rattle.rules.specs.Work.{Loaded, filling, lower, markable, slot, slots}
-use Rattle.rules.specs.declared.calls.Answer.TheVariants.{Marked, Refused}
+use Rattle.rules.specs.declared.calls.Outcome.TheVariants.{Marked}
 use Rattle.rules.specs.declared.calls.Call.TheVariants.{Mark}
 use Rattle.stack.proofs.RunLaws.{run_shown}
 use Rattle.stack.specs.Memory.{Meaning, Piece}
@@ -154,23 +154,23 @@ module _ (m : Meaning) (ms : List ℕ) (b n : ℕ) where
   mark_open h q l =
       rw (lt-ltb b 64 h) (markable_none (not (among b ms)) (ltb (length ms) 2) (unless (leb 4096 n) WorkBufferShort None) q ∙ ap (λ t. unless t WorkBufferShort None) (le-leb 4096 n l))
 
-  pub mark_refused : (e : Refusal) → argument_check m.size ms (Mark b n) ≡ Some e → answer (board m ms) (Mark b n) ≡ Refused e
-  mark_refused e q = ap (λ o. or_refused o (or_refused (first_denied (for_mark (board m ms) b) (range_with_len 0 (64 * m.size))) (Marked (spare_of ms)))) q
+  pub mark_refused : (e : Refusal) → argument_check m.size ms (Mark b n) ≡ Some e → answer (board m ms) (Mark b n) ≡ Err e
+  mark_refused e q = ap (λ o. or_refused o (or_refused (first_denied (for_mark (board m ms) b) (range_with_len 0 (64 * m.size))) (Ok (Marked (spare_of ms))))) q
 
   pub mark_answer : (o : Option Refusal) → argument_check m.size ms (Mark b n) ≡ None → first_denied (for_mark (board m ms) b) (range_with_len 0 (64 * m.size)) ≡ o
-      → answer (board m ms) (Mark b n) ≡ or_refused o (Marked (spare_of ms))
+      → answer (board m ms) (Mark b n) ≡ or_refused o (Ok (Marked (spare_of ms)))
   mark_answer o d q =
-      ap (λ z. or_refused z (or_refused (first_denied (for_mark (board m ms) b) (range_with_len 0 (64 * m.size))) (Marked (spare_of ms)))) d
-      ∙ ap (λ z. or_refused z (Marked (spare_of ms))) q
+      ap (λ z. or_refused z (or_refused (first_denied (for_mark (board m ms) b) (range_with_len 0 (64 * m.size))) (Ok (Marked (spare_of ms))))) d
+      ∙ ap (λ z. or_refused z (Ok (Marked (spare_of ms)))) q
 
 module _ {X : Type 0} (G : Ghosts X) where
   pub mark_done : (x y : X) (ms ms' : List ℕ) (b n : ℕ) → argument_check (G.means x).size ms (Mark b n) ≡ None
       → first_denied (for_mark (board (G.means x) ms) b) (range_with_len 0 (64 * (G.means x).size)) ≡ None → ms' ≡ ms ++ b ∷ []
       → InOrder G.means G.puts x (along (filling ms b (λ a. line_of (for_mark (board (G.means x) ms) b a))) (range_with_len 0 (G.means x).size)) y
-      → Step (board (G.means x) ms) (Mark b n) (Marked (spare_of ms)) (board (G.means y) ms') × InOrder G.means G.puts x (puts (board (G.means x) ms) (Mark b n)) y
+      → Step (board (G.means x) ms) (Mark b n) (Ok (Marked (spare_of ms))) (board (G.means y) ms') × InOrder G.means G.puts x (puts (board (G.means x) ms) (Mark b n)) y
   mark_done x y ms ms' b n d q m ch =
       let says = mark_answer (G.means x) ms b n None d q in
-      call_done G x y ms ms' (Mark b n) (Marked (spare_of ms)) tt says refl
+      call_done G x y ms ms' (Mark b n) (Ok (Marked (spare_of ms))) tt says refl
       (m ∙ sym (cond-true (accepted (answer (board (G.means x) ms) (Mark b n))) (ms ++ b ∷ []) ms (ap accepted says))) ch
 
 -- the two puts of an index

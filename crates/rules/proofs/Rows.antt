@@ -5,13 +5,11 @@ use Rattle.std.specs.List.{range_with_len}
 use Rattle.std.proofs.lemmas.Bool.{cases_eq, cases_lt, eq-eqb, ne_eqb, or_from, or_parts}
 use Rattle.rules.proofs.Laying.{elsewhere}
 use Rattle.codec.proofs.Distance.{distance_same, distance_differ}
-use Rattle.codec.proofs.DecodingLaws.{distance_none}
 use borrow.Rule.Slice.PartMut.{put_mid, post_of}
-use Rattle.std.proofs.lemmas.Nat.{div-mul-add, mod-mul-add}
-use Rattle.std.proofs.lemmas.List.{drop_more, drop_all, length-append, length-drop, length-take-le, get_or_append_left, get_or-append_right, get_or-take, get_or-drop}
+use Rattle.std.proofs.lemmas.List.{drop_more, length-append, length-drop, length-take-le, get_or_append_left, get_or-append_right, get_or-take}
 use Rattle.std.proofs.lemmas.List.FromFn.{fill_by_all, length-map-range_with_len, get_or-map-range_with_len}
 use Rattle.rules.proofs.Xor.{each_map, xor_cong}
-use Rattle.rules.proofs.Geometry.{groups, Real, Member, each_member}
+use Rattle.rules.proofs.Geometry.{Real, Member, each_member}
 use Rattle.rules.proofs.Gathering.{counting_split, xor_append}
 use Rattle.codec.specs.Check.{check}
 use Rattle.codec.specs.Word.{distance}
@@ -67,11 +65,6 @@ module _ (ms : List ℕ) (w : List ℕ) (j k : ℕ) (h : k < 64) where
   unfolding image_by
   row_retired v e = e
 
--- where a group's lines stand
-pub group_range : (ms : List ℕ) (q : ℕ) → q < groups ms → group_start ms (32 * q) + group_count ms ≤ 64
-group_range [] q h = omega arith
-group_range (m ∷ ms) q h = omega arith
-
 -- one line more in a sum
 pub xor_more : (f : ℕ → ℕ) (lo n : ℕ) → xor_over f (range_with_len lo (n + 1)) ≡ bit_xor (xor_over f (range_with_len lo n)) (f (lo + n))
 xor_more f lo n =
@@ -90,9 +83,6 @@ distance_more xs ys i hx hy =
       | inl e ↦ distance_same x y (drop (i + 1) xs) (drop (i + 1) ys) e ∙ rw (eq-eqb x y e) (sym (zero-add d))
       | inr n ↦ distance_differ x y (drop (i + 1) xs) (drop (i + 1) ys) n ∙ rw (ne_eqb x y n) (sym (one-add d))
     ]
-
-pub distance_end : (xs ys : List ℕ) (i : ℕ) → length xs ≤ i → length ys ≤ i → distance (drop i xs) (drop i ys) ≡ 0
-distance_end xs ys i h g = ap₂ distance (drop_all i xs h) (drop_all i ys g) ∙ distance_none []
 
 -- bank after bank: what was shown otherwise, what is not covered
 pub otherwise_more : (shown : Contents) (j : ℕ) (p : ℕ → Option Part) (a n : ℕ)
@@ -184,10 +174,3 @@ chunk_more f row piece n per m room long old new k h =
           get_or-append_right (take a row) (piece ++ post_of a m row) a k 0 lt u
           ∙ get_or_append_left piece (post_of a m row) 0 (k - a) (omega arith) ∙ new (k - a) (omega arith) ∙ ap f e
     ]
-
-pub check_piece : (w symbols : List ℕ) (lo n per skip r : ℕ) → r < per → symbols ≡ check (slot w (lo + n))
-    → get_or (take (skip + per - skip) (drop skip symbols)) r 0 ≡ get_or (check (slot w (lo + (n * per + r) / per))) (skip + (n * per + r) % per) 0
-check_piece w symbols lo n per skip r h e =
-    let z : r < skip + per - skip = omega arith in
-    get_or-take (skip + per - skip) (drop skip symbols) r 0 z ∙ get_or-drop skip symbols r 0 ∙ ap (λ xs. get_or xs (skip + r) 0) e
-    ∙ ap₂ (λ x y. get_or (check (slot w (lo + x))) (skip + y) 0) (sym (div-mul-add n per r h)) (sym (mod-mul-add n per r h))

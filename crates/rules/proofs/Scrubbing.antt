@@ -1,5 +1,5 @@
 -- The step of a scrub.
-use Rattle.std.proofs.Common.{◌≡◌, ℕ, ◌+◌, ◌*◌, ◌%◌, ◌<◌, ◌≤◌, Bool, true, false, List, [], ◌∷◌, length, Some, None, Option, sym, refl, ap, ◌∙◌, subst, inl, inr, zero-add, add-one, arith}
+use Rattle.std.proofs.Common.{◌≡◌, ℕ, ◌+◌, ◌*◌, ◌%◌, ◌<◌, ◌≤◌, Bool, true, false, List, [], ◌∷◌, length, Some, None, Option, sym, refl, ap, ◌∙◌, subst, inl, inr, zero-add, add-one, arith, Ok, Err}
 use Rattle.std.specs.List.{range_with_len}
 use Rattle.std.proofs.lemmas.Bool.{cases_Bool, lt-ltb, le-ltb, le-leb, lt-leb, eq-eqb, ne_eqb}
 use Rattle.std.proofs.lemmas.List.FromFn.{length-map-range_with_len}
@@ -14,7 +14,7 @@ use Rattle.rules.specs.History.{Step}
 use Rattle.rules.specs.Places.{bank_of, group_count, group_of, group_start, image, index_of, members, role}
 use Rattle.rules.specs.Rules.{Part, State, addresses, along, along_banks, answer, argument_check, first_denied, group, line_of, of_group, or_refused, otherwise, otherwise_part, part, plan, puts, reading, row, when}
 use Rattle.rules.specs.Work.{Loaded, scrubbing, slot, slots}
-use Rattle.rules.specs.declared.calls.Answer.TheVariants.{Refused, Scrubbed}
+use Rattle.rules.specs.declared.calls.Outcome.TheVariants.{Scrubbed}
 use Rattle.rules.specs.declared.calls.Call.TheVariants.{Scrub}
 use Rattle.stack.proofs.PieceLaws.{cells_same}
 use Rattle.stack.proofs.RunLaws.{run_shown}
@@ -56,16 +56,16 @@ module _ (m : Meaning) (ms : List ℕ) (a n : ℕ) where
   pub scrub_work : index_of a < m.size → n < 4096 → argument_check m.size ms (Scrub a n) ≡ Some WorkBufferShort
   scrub_work h l = rw (lt-ltb a (64 * m.size) (omega arith), lt-leb 4096 n l) refl
 
-  pub scrub_refused : (e : Refusal) → argument_check m.size ms (Scrub a n) ≡ Some e → answer (board m ms) (Scrub a n) ≡ Refused e
+  pub scrub_refused : (e : Refusal) → argument_check m.size ms (Scrub a n) ≡ Some e → answer (board m ms) (Scrub a n) ≡ Err e
   scrub_refused e q =
       ap (λ o. or_refused o (or_refused (first_denied (reading (board m ms)) (group ms a))
-      (Scrubbed (otherwise m.shown (index_of a) (plan (board m ms) (Scrub a n) (index_of a)) (range_with_len 0 72))))) q
+      (Ok (Scrubbed (otherwise m.shown (index_of a) (plan (board m ms) (Scrub a n) (index_of a)) (range_with_len 0 72)))))) q
 
   pub scrub_denied : (e : Refusal) → index_of a < m.size → 4096 ≤ n
       → first_denied (reading (board m ms)) (addresses (index_of a) (range_with_len (group_start ms (bank_of a)) (group_count ms))) ≡ Some e
-      → answer (board m ms) (Scrub a n) ≡ Refused e
+      → answer (board m ms) (Scrub a n) ≡ Err e
   scrub_denied e h l q =
-      let R = Scrubbed (otherwise m.shown (index_of a) (plan (board m ms) (Scrub a n) (index_of a)) (range_with_len 0 72)) in
+      let R = Ok (Scrubbed (otherwise m.shown (index_of a) (plan (board m ms) (Scrub a n) (index_of a)) (range_with_len 0 72))) in
       ap (λ o. or_refused o (or_refused (first_denied (reading (board m ms)) (group ms a)) R)) (scrub_open h l)
       ∙ ap (λ xs. or_refused (first_denied (reading (board m ms)) (addresses (index_of a) xs)) R) (sym (group_is ms (bank_of a)))
       ∙ ap (λ o. or_refused o R) q
@@ -75,7 +75,7 @@ module _ {X : Type 0} (G : Ghosts X) where
       → Loaded (reading (board (G.means x) ms)) (index_of a) (group_start ms (bank_of a)) (group_count ms) w → ms' ≡ ms
       → count ≡ otherwise (G.means x).shown (index_of a) (scrubbing ms (bank_of a) (slots w) (index_of a)) (range_with_len 0 72)
       → InOrder G.means G.puts x (along_banks (scrubbing ms (bank_of a) (slots w) (index_of a)) (index_of a) (range_with_len 0 72)) y
-      → Step (board (G.means x) ms) (Scrub a n) (Scrubbed count) (board (G.means y) ms') × InOrder G.means G.puts x (puts (board (G.means x) ms) (Scrub a n)) y
+      → Step (board (G.means x) ms) (Scrub a n) (Ok (Scrubbed count)) (board (G.means y) ms') × InOrder G.means G.puts x (puts (board (G.means x) ms) (Scrub a n)) y
   scrub_done x y ms ms' a n w count h l low load m e ch =
       let s : State = board (G.means x) ms in
       let i : ℕ = index_of a in
@@ -90,13 +90,13 @@ module _ {X : Type 0} (G : Ghosts X) where
       (λ j b ne. ap (λ t. when t (R j b)) (ne_eqb j i ne))
       ∙ ap (λ t. along_banks (λ b. when t (R i b)) i (range_with_len 0 72)) (eq-eqb i i refl)
       ∙ sym (banks_cong i (scrubbing ms (bank_of a) (slots w) i) (R i) 0 72 same) in
-      let says : answer s (Scrub a n) ≡ Scrubbed count =
-      ap (λ o. or_refused o (or_refused (first_denied (reading s) (group ms a)) (Scrubbed (otherwise (G.means x).shown i (plan s (Scrub a n) i) (range_with_len 0 72))))) (scrub_open (G.means x) ms a n h l)
-      ∙ ap (λ xs. or_refused (first_denied (reading s) (addresses i xs)) (Scrubbed (otherwise (G.means x).shown i (plan s (Scrub a n) i) (range_with_len 0 72)))) (sym (group_is ms (bank_of a)))
-      ∙ ap (λ o. or_refused o (Scrubbed (otherwise (G.means x).shown i (plan s (Scrub a n) i) (range_with_len 0 72)))) load.none
-      ∙ ap (λ t. Scrubbed (otherwise (G.means x).shown i (λ b. when t (R i b)) (range_with_len 0 72))) (eq-eqb i i refl)
-      ∙ ap Scrubbed (sym (e ∙ otherwise_cong (G.means x).shown i (scrubbing ms (bank_of a) (slots w) i) (R i) 0 72 same)) in
-      call_done G x y ms ms' (Scrub a n) (Scrubbed count) tt says refl m (subst (λ ps. InOrder G.means G.puts x ps y) (sym here) ch)
+      let says : answer s (Scrub a n) ≡ Ok (Scrubbed count) =
+      ap (λ o. or_refused o (or_refused (first_denied (reading s) (group ms a)) (Ok (Scrubbed (otherwise (G.means x).shown i (plan s (Scrub a n) i) (range_with_len 0 72)))))) (scrub_open (G.means x) ms a n h l)
+      ∙ ap (λ xs. or_refused (first_denied (reading s) (addresses i xs)) (Ok (Scrubbed (otherwise (G.means x).shown i (plan s (Scrub a n) i) (range_with_len 0 72))))) (sym (group_is ms (bank_of a)))
+      ∙ ap (λ o. or_refused o (Ok (Scrubbed (otherwise (G.means x).shown i (plan s (Scrub a n) i) (range_with_len 0 72))))) load.none
+      ∙ ap (λ t. Ok (Scrubbed (otherwise (G.means x).shown i (λ b. when t (R i b)) (range_with_len 0 72)))) (eq-eqb i i refl)
+      ∙ ap (λ n. Ok (Scrubbed n)) (sym (e ∙ otherwise_cong (G.means x).shown i (scrubbing ms (bank_of a) (slots w) i) (R i) 0 72 same)) in
+      call_done G x y ms ms' (Scrub a n) (Ok (Scrubbed count)) tt says refl m (subst (λ ps. InOrder G.means G.puts x ps y) (sym here) ch)
 
 -- bank after bank, the count is of what was shown at first
 otherwise_local : (f g : Contents) (i n : ℕ) → ((k : ℕ) → k < 64 → f n i k ≡ g n i k) → (t : Bool) (l : List ℕ) → length l ≡ 64

@@ -1,23 +1,15 @@
 -- Lines and checks fetched piece by piece.
-use Rattle.std.proofs.Common.{◌≡◌, ℕ, ◌+◌, ◌*◌, ◌/◌, ◌%◌, ◌<◌, Bool, true, false, List, [], ◌++◌, length, drop, Result, sym, ap, ◌∙◌, ap₂, arith}
+use Rattle.std.proofs.Common.{◌≡◌, ℕ, ◌+◌, ◌*◌, ◌/◌, ◌%◌, ◌<◌, List, [], ◌++◌, length, drop, Result, ap, ◌∙◌, ap₂, arith}
 use borrow.Rule.Slice.PartMut.{put_mid, post_of}
 use Rattle.std.proofs.lemmas.List.{append-nil, length-append, length-drop, drop_all, take_at, drop-drop}
 use Rattle.rules.proofs.Geometry.{line_bank_real}
-use Rattle.rules.specs.Places.{bank_of, check_in, index_of, line_bank, second_in, short}
-use Rattle.stack.proofs.PieceLaws.{answered, inside, length_cells}
+use Rattle.rules.specs.Places.{bank_of, index_of, line_bank}
+use Rattle.stack.proofs.PieceLaws.{answered, inside}
 use Rattle.stack.specs.Memory.{Contents, Fits, cells, outside, piece}
 use Rattle.stack.specs.Pieces.{Accepted}
 use Rattle.stack.specs.Refusals.{Fetched, Stored, judged}
 use Rattle.stack.specs.declared.memory.Stack.{Ghosts}
 use Rattle.stack.specs.declared.refusal.Refusal.{Refusal}
-
-abbrev pub seconds : Bool → ℕ
-seconds true = 1
-seconds false = 2
-
-second_length : (z : Bool) (f : Contents) (a : ℕ) → length (second_in z f a) ≡ seconds z
-second_length true f a = length_cells f 68 (index_of a) (bank_of a) 1
-second_length false f a = length_cells f (68 + bank_of a / 32) (index_of a) (2 * (bank_of a % 32)) 2
 
 -- a fetch that fits
 pub fetched : (r : Result (Unit {0}) Refusal) (f : Contents) (size bank i from n : ℕ) (into out : List ℕ)
@@ -46,18 +38,10 @@ pub second_fits : (size a : ℕ) → index_of a < size → Fits size (68 + bank_
 second_fits size a h = record { bank_real = omega arith; index_real = h; some = omega arith; room = omega arith }
 
 -- a check fetched in two pieces
-two_parts : (w F S : List ℕ) (n : ℕ) → length w ≡ 4 + n → length F ≡ 4 → length S ≡ n → put_mid 4 n (F ++ post_of 0 4 w) S ≡ F ++ S
+pub two_parts : (w F S : List ℕ) (n : ℕ) → length w ≡ 4 + n → length F ≡ 4 → length S ≡ n → put_mid 4 n (F ++ post_of 0 4 w) S ≡ F ++ S
 two_parts w F S n lw lF lS =
     let X = F ++ drop 4 w in
     let lX = length-append F (drop 4 w) in
     let ld = length-drop 4 w in
     let rest : drop n (drop 4 X) ≡ [] = drop-drop n 4 X ∙ drop_all (4 + n) X (omega arith) in
     ap₂ (λ p q. p ++ (S ++ q)) (take_at F (drop 4 w) 4 lF) rest ∙ ap (λ q. F ++ q) (append-nil S)
-
-pub check_made : (ms : List ℕ) (f : Contents) (a : ℕ) (z : Bool) → short ms ≡ z → (w F S : List ℕ) → length w ≡ 4 + seconds z
-    → F ≡ cells f (64 + bank_of a / 16) (index_of a) (4 * (bank_of a % 16)) 4
-    → S ≡ second_in z f a
-    → put_mid 4 (seconds z) (F ++ post_of 0 4 w) S ≡ check_in ms f a
-check_made ms f a z e w F S lw eF eS =
-    two_parts w F S (seconds z) lw (ap length eF ∙ length_cells f _ _ _ 4) (ap length eS ∙ second_length z f a)
-    ∙ ap₂ (λ p q. p ++ q) eF (eS ∙ ap (λ t. second_in t f a) (sym e))

@@ -4,7 +4,7 @@ use Rattle.codec.specs.Code.{zero_line}
 use Rattle.codec.specs.Word.{distance}
 use Rattle.rules.specs.Places.{bank_of, check_in, group_of, index_of, line_in, parity_bank}
 use Rattle.rules.specs.Rules.{HostCall, State, accepted, answer, puts}
-use Rattle.rules.specs.declared.calls.Answer.{Answer}
+use Rattle.rules.specs.Answers.{Answer}
 use Rattle.rules.specs.declared.calls.Call.TheVariants.{Clear, Mark, Pass, Read, Renew, Scrub, Settle, Write}
 use Rattle.stack.specs.Memory.{Place}
 use Rattle.stack.specs.Pieces.{after, covered}

@@ -1,4 +1,5 @@
 pub mod Places
+pub mod Answers
 pub mod Rules
 pub mod History
 pub mod Theorem

@@ -1,13 +1,13 @@
 -- The board's calls: what each answers, what it refuses, and what it puts where.
-use Rattle.std.specs.Prelude.{ℕ, ◌+◌, ◌*◌, ◌/◌, ◌%◌, Bool, true, false, cond, not, ◌||◌, List, [], ◌∷◌, ◌++◌, map, length, take, drop, Some, None, Option, ◌==◌, bit_xor, nat_le, nat_lt, slice_index}
+use Rattle.std.specs.Prelude.{ℕ, ◌+◌, ◌*◌, ◌/◌, ◌%◌, Bool, true, false, cond, not, ◌||◌, List, [], ◌∷◌, ◌++◌, map, length, take, drop, Some, None, Ok, Err, Option, ◌==◌, bit_xor, nat_le, nat_lt, slice_index}
 use Rattle.std.specs.List.{range_with_len}
 use Rattle.codec.specs.Check.{check}
 use Rattle.codec.specs.Code.{Decoded, decoding, found, judging, uncorrectable, zero_line}
 use Rattle.codec.specs.Word.{distance}
 use Rattle.codec.specs.declared.word.Finding.{Finding}
 use Rattle.rules.specs.Places.{bank_of, check_in, group_of, image, index_of, line_in, members, parity_bank, role, without, xor_over}
-use Rattle.rules.specs.declared.calls.Answer.{Answer}
-use Rattle.rules.specs.declared.calls.Answer.TheVariants.{Cleared, Done, HandedOut, Marked, Refused, Renewed, Scrubbed, Written}
+use Rattle.rules.specs.Answers.{Answer}
+use Rattle.rules.specs.declared.calls.Outcome.TheVariants.{Cleared, Done, HandedOut, Marked, Renewed, Scrubbed, Written}
 use Rattle.rules.specs.declared.calls.Call.{Call}
 use Rattle.rules.specs.declared.calls.Call.TheVariants.{Clear, Mark, Pass, Read, Renew, Scrub, Settle, Write}
 use Rattle.rules.specs.declared.roles.Role.{Role}
@@ -215,15 +215,15 @@ along p (j ∷ js) = along_banks (p j) j (range_with_len 0 72) ++ along p js
 -- ANSWERS
 
 abbrev pub read_answer : Outcome → Answer
-read_answer (obtained l f) = HandedOut l f
-read_answer (denied e) = Refused e
+read_answer (obtained l f) = Ok (HandedOut l f)
+read_answer (denied e) = Err e
 
 abbrev pub write_answer : Outcome → Answer
-write_answer (obtained l f) = Written f
-write_answer (denied e) = Refused e
+write_answer (obtained l f) = Ok (Written f)
+write_answer (denied e) = Err e
 
 abbrev pub or_refused : Option Refusal → Answer → Answer
-or_refused (Some e) r = Refused e
+or_refused (Some e) r = Err e
 or_refused None r = r
 
 abbrev pub by_partner : ℕ → Option ℕ → Option Refusal
@@ -246,27 +246,21 @@ spare_of (m ∷ ms) = 69
 abbrev pub past_checks : State → HostCall → Answer
 past_checks s (Read a n) = read_answer (reading s a)
 past_checks s (Write a l) = write_answer (reading s a)
-past_checks s (Renew a l) = or_refused (by_partner a (lowest s (partners s.marks a))) Renewed
-past_checks s (Clear a) = Cleared
+past_checks s (Renew a l) = or_refused (by_partner a (lowest s (partners s.marks a))) (Ok Renewed)
+past_checks s (Clear a) = Ok Cleared
 past_checks s (Scrub a w) =
     or_refused (first_denied (reading s) (group s.marks a))
-    (Scrubbed (otherwise s.shown (index_of a) (plan s (Scrub a w) (index_of a)) (range_with_len 0 72)))
-past_checks s (Mark b w) = or_refused (first_denied (for_mark s b) (range_with_len 0 (64 * s.size))) (Marked (spare_of s.marks))
-past_checks s Settle = Done
-past_checks s Pass = Done
+    (Ok (Scrubbed (otherwise s.shown (index_of a) (plan s (Scrub a w) (index_of a)) (range_with_len 0 72))))
+past_checks s (Mark b w) = or_refused (first_denied (for_mark s b) (range_with_len 0 (64 * s.size))) (Ok (Marked (spare_of s.marks)))
+past_checks s Settle = Ok Done
+past_checks s Pass = Ok Done
 
 abbrev pub answer : State → HostCall → Answer
 answer s c = or_refused (argument_check s.size s.marks c) (past_checks s c)
 
 abbrev pub accepted : Answer → Bool
-accepted (Refused e) = false
-accepted (HandedOut l f) = true
-accepted (Written f) = true
-accepted Renewed = true
-accepted Cleared = true
-accepted (Scrubbed n) = true
-accepted (Marked b) = true
-accepted Done = true
+accepted (Err e) = false
+accepted (Ok o) = true
 
 abbrev pub puts : State → HostCall → List Piece
 puts s c = cond (accepted (answer s c)) (along (plan s c) (range_with_len 0 s.size)) []

@@ -1,35 +1,29 @@
 -- The main theorem on boards.
-use Rattle.std.specs.Prelude.{◌≡◌, ℕ, ◌*◌, ◌<◌, cond, List, [], ◌∷◌, Some, None, Option, nat_le}
+use Rattle.std.specs.Prelude.{◌≡◌, ℕ, ◌*◌, ◌<◌, cond, List, [], ◌∷◌, Some, None, Ok, Err, Option, nat_le}
 use Rattle.codec.specs.declared.word.Finding.{Finding}
 use Rattle.rules.specs.History.{Event, Given, History, NoneNamed, Step, Tolerable, fresh, ledger, next, wrong}
 use Rattle.rules.specs.Places.{InUse}
 use Rattle.rules.specs.Rules.{HostCall, State, answer, argument_check, by_partner, partners}
-use Rattle.rules.specs.declared.calls.Answer.{Answer}
-use Rattle.rules.specs.declared.calls.Answer.TheVariants.{Cleared, Done, HandedOut, Marked, Refused, Renewed, Scrubbed, Written}
+use Rattle.rules.specs.Answers.{Answer}
+use Rattle.rules.specs.declared.calls.Outcome.TheVariants.{Cleared, Done, HandedOut, Marked, Renewed, Scrubbed, Written}
 use Rattle.rules.specs.declared.calls.Call.TheVariants.{Clear, Mark, Pass, Read, Renew, Scrub, Settle, Write}
 use Rattle.stack.specs.Memory.{Place}
 use Rattle.stack.specs.declared.refusal.Refusal.{Refusal}
 
 -- the line that an answer hands out, and the refusal in one
 abbrev pub line_handed : Answer → Option (List ℕ)
-line_handed (Refused e) = None
-line_handed (HandedOut l f) = Some l
-line_handed (Written f) = None
-line_handed Renewed = None
-line_handed Cleared = None
-line_handed (Scrubbed n) = None
-line_handed (Marked b) = None
-line_handed Done = None
+line_handed (Err e) = None
+line_handed (Ok (HandedOut l f)) = Some l
+line_handed (Ok (Written f)) = None
+line_handed (Ok Renewed) = None
+line_handed (Ok Cleared) = None
+line_handed (Ok (Scrubbed n)) = None
+line_handed (Ok (Marked b)) = None
+line_handed (Ok Done) = None
 
 abbrev pub refusal_in : Answer → Option Refusal
-refusal_in (Refused e) = Some e
-refusal_in (HandedOut l f) = None
-refusal_in (Written f) = None
-refusal_in Renewed = None
-refusal_in Cleared = None
-refusal_in (Scrubbed n) = None
-refusal_in (Marked b) = None
-refusal_in Done = None
+refusal_in (Err e) = Some e
+refusal_in (Ok o) = None
 
 -- Two boards are equal: in the lines that reads into 64 bytes hand out, and in the bytes kept in banks in use.
 pub record Equal (s t : State) : Type 0 where
@@ -42,7 +36,7 @@ SameLines size es fs = (a : ℕ) → a < 64 * size → (ledger es).lines a ≡ (
 
 -- A read into 64 bytes refuses no address in range, and hands out the line that the address last accepted.
 abbrev pub ReadsBack : State → List Event → Type 0
-ReadsBack s es = (a : ℕ) → a < 64 * s.size → (f : Finding) × (answer s (Read a 64) ≡ HandedOut ((ledger es).lines a) f)
+ReadsBack s es = (a : ℕ) → a < 64 * s.size → (f : Finding) × (answer s (Read a 64) ≡ Ok (HandedOut ((ledger es).lines a) f))
 
 -- the lowest partner with more than one wrong symbol
 abbrev pub lowest_damaged : State → List ℕ → Option ℕ

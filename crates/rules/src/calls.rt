@@ -3,7 +3,7 @@ use codec::word::Finding;
 use stack::refusal::Refusal;
 
 // A call with what the host gives: addresses, banks, lines (held as `L`), and the lengths of buffers.
-#[derive(Clone, Copy)]
+#[derive(Clone, Copy, PartialEq, Eq, Debug)]
 pub enum Call<L> {
     // into a buffer of so many bytes
     Read { address: usize, length: usize },
@@ -17,10 +17,9 @@ pub enum Call<L> {
     Pass,
 }
 
-// What a call answers.
-#[derive(Clone, Copy)]
-pub enum Answer {
-    Refused(Refusal),
+// What came of a call that was accepted.
+#[derive(Clone, Copy, PartialEq, Eq, Debug)]
+pub enum Outcome {
     // a read: the line, and how it was come by
     HandedOut([u8; 64], Finding),
     // a write: how the old line was come by
@@ -31,5 +30,9 @@ pub enum Answer {
     Scrubbed(usize),
     // the spare that took over
     Marked(usize),
+    // a settle or a pass
     Done,
 }
+
+// What a call answers.
+pub type Answer = Result<Outcome, Refusal>;

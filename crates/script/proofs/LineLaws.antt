@@ -1,11 +1,11 @@
 -- A refused line changes nothing, and later lines only add rows.
-use Rattle.std.proofs.Common.{◌≡◌, ℕ, ◌+◌, true, false, cond, List, [], ◌∷◌, ◌++◌, is_some, Some, None, Option, sym, refl, ap, ◌∙◌, append_assoc}
+use Rattle.std.proofs.Common.{◌≡◌, ℕ, ◌+◌, true, false, cond, List, [], ◌∷◌, ◌++◌, is_some, Some, None, Option, sym, refl, ap, ◌∙◌, append_assoc, Ok, Err}
 use Rattle.std.specs.List.{range_with_len}
 use Rattle.layers.specs.declared.fault.Fault.{Fault}
 use borrow.Author.Tests.{clash}
 use Rattle.rules.specs.Rules.{HostCall, accepted, along, answer, plan}
-use Rattle.rules.specs.declared.calls.Answer.{Answer}
-use Rattle.rules.specs.declared.calls.Answer.TheVariants.{Cleared, Done, HandedOut, Marked, Refused, Renewed, Scrubbed, Written}
+use Rattle.rules.specs.Answers.{Answer}
+use Rattle.rules.specs.declared.calls.Outcome.TheVariants.{Cleared, Done, HandedOut, Marked, Renewed, Scrubbed, Written}
 use Rattle.rules.specs.declared.calls.Call.TheVariants.{Clear, Mark, Pass, Read, Renew, Scrub, Settle, Write}
 use Rattle.language.specs.Commands.{command_in, letter_of_call}
 use Rattle.language.specs.Rows.{call_reply, fault_reply, row}
@@ -16,14 +16,14 @@ use Rattle.script.specs.Scripts.{LaterLinesOnlyAdd, RefusedChangesNothing, answe
 
 -- a reply with a refusal is to a call that was not accepted
 not_accepted : (letter : ℕ) (r : Answer) → is_some (call_reply letter r).refusal ≡ true → accepted r ≡ false
-not_accepted letter (Refused e) h = refl
-not_accepted letter (HandedOut l f) h = absurd (clash h)
-not_accepted letter (Written f) h = absurd (clash h)
-not_accepted letter Renewed h = absurd (clash h)
-not_accepted letter Cleared h = absurd (clash h)
-not_accepted letter (Scrubbed n) h = absurd (clash h)
-not_accepted letter (Marked b) h = absurd (clash h)
-not_accepted letter Done h = absurd (clash h)
+not_accepted letter (Err e) h = refl
+not_accepted letter (Ok (HandedOut l f)) h = absurd (clash h)
+not_accepted letter (Ok (Written f)) h = absurd (clash h)
+not_accepted letter (Ok Renewed) h = absurd (clash h)
+not_accepted letter (Ok Cleared) h = absurd (clash h)
+not_accepted letter (Ok (Scrubbed n)) h = absurd (clash h)
+not_accepted letter (Ok (Marked b)) h = absurd (clash h)
+not_accepted letter (Ok Done) h = absurd (clash h)
 
 -- such a call puts nothing
 nothing_put : (m : Machine) (c : HostCall) → accepted (answer (view m) c) ≡ false

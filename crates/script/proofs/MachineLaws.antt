@@ -1,14 +1,14 @@
 -- The promises of the board's calls determine the machine.
 use Rattle.std.proofs.Common.{◌≡◌, ℕ, List, [], ap, ◌∙◌}
 use Rattle.std.specs.List.{range_with_len}
-use Rattle.stack.specs.declared.flat.bytes.ByteMemory.{ByteMemory}
+use Rattle.stack.specs.Memories.{ByteMemory}
 use Rattle.layers.specs.declared.buffer.WriteBuffer.{WriteBuffer}
 use Rattle.layers.specs.declared.injector.FaultInjector.{FaultInjector}
 use Rattle.layers.specs.Tables.{lines_in}
 use Rattle.board.specs.Marks.{listed}
 use Rattle.rules.specs.Rules.{HostCall, along, answer, puts}
 use Rattle.rules.specs.Work.{formatting}
-use Rattle.rules.specs.declared.calls.Answer.{Answer}
+use Rattle.rules.specs.Answers.{Answer}
 use Rattle.rules.specs.declared.calls.Call.TheVariants.{Clear, Mark, Pass, Read, Renew, Scrub, Settle, Write}
 use Rattle.board.specs.State.{FormatRun}
 use Rattle.board.specs.declared.board.Board.{Board}

@@ -6,7 +6,7 @@ use Rattle.stack.specs.Flat.{flat_sound}
 use Rattle.stack.specs.Memories.{BytesStored, byte_means}
 use Rattle.stack.specs.Memory.{Piece}
 use Rattle.stack.specs.Pieces.{Accepted, InOrder, done, more}
-use Rattle.stack.specs.declared.flat.bytes.ByteMemory.{ByteMemory}
+use Rattle.stack.specs.Memories.{ByteMemory}
 use Rattle.stack.specs.declared.memory.Stack.{Ghosts}
 use Rattle.layers.specs.Exact.{BufferPasses, BufferPuts, BufferSettles, InjectorPasses, InjectorPuts, InjectorSettles}
 use Rattle.layers.specs.Faults.{faulty, faulty_sound}

@@ -40,9 +40,9 @@ pub leading_ends : (n : ℕ) (s : Pile) (text : List ℕ) → text ≡ [] → le
 unfolding leading_rows rows
 leading_ends n s text e = rw (e, no_lines)
 
-pub rows_end : (n : ℕ) (m : Machine) (out all : List ℕ) (text : List ℕ) → text ≡ [] → all ≡ out ++ rows n m (lines text) → out ≡ all
+pub rows_end : (n : ℕ) (m : Machine) (out all : List ℕ) (ls : List (List ℕ)) → ls ≡ [] → all ≡ out ++ rows n m ls → out ≡ all
 unfolding rows
-rows_end n m out all text e total = sym (total ∙ ap (λ t. out ++ rows n m (lines t)) e ∙ ap (λ ls. out ++ rows n m ls) no_lines ∙ append-nil out)
+rows_end n m out all ls e total = sym (total ∙ ap (λ l. out ++ rows n m l) e ∙ append-nil out)
 
 -- the whole output
 pub too_long : (input out out' : List ℕ) (r : Reply) → 16384 < length input → out ≡ [] → r ≡ unreadable → out' ≡ out ++ row 0 r → out' ≡ output input

@@ -1,7 +1,7 @@
 -- A board over a pile, as a value that every call determines.
 use Rattle.std.specs.Prelude.{ℕ, List, [], replicate}
 use Rattle.std.specs.List.{range_with_len}
-use Rattle.stack.specs.declared.flat.bytes.ByteMemory.{ByteMemory}
+use Rattle.stack.specs.Memories.{ByteMemory}
 use Rattle.layers.specs.declared.buffer.WriteBuffer.{WriteBuffer}
 use Rattle.layers.specs.declared.injector.FaultInjector.{FaultInjector}
 use Rattle.rules.specs.Rules.{HostCall, State, along, puts}

@@ -2,7 +2,7 @@
 use Rattle.std.specs.Prelude.{ℕ, List, [], ◌∷◌, ◌++◌, map, length, replicate, Some, None, Ok, Err, vec_items, Option, Result}
 use Rattle.stack.specs.Flat.{flat_means, size_of, written}
 use Rattle.stack.specs.Memory.{Meaning, Piece}
-use Rattle.stack.specs.declared.flat.bytes.ByteMemory.{ByteMemory}
+use Rattle.stack.specs.Memories.{ByteMemory}
 use Rattle.stack.specs.declared.refusal.Refusal.{Refusal}
 use Rattle.layers.specs.Faults.{aged, faulty, outlasting, struck}
 use Rattle.layers.specs.Lines.{absorbed, buffering, drained}

@@ -2,7 +2,7 @@
 use Rattle.std.specs.Prelude.{◌≡◌, ℕ, ◌+◌, ◌≤◌, true, cond, List, [], ◌∷◌, ◌++◌, length, is_some, Some, None, Option, nat_lt}
 use Rattle.layers.specs.declared.fault.Fault.{Fault}
 use Rattle.rules.specs.Rules.{answer}
-use Rattle.rules.specs.declared.calls.Answer.{Answer}
+use Rattle.rules.specs.Answers.{Answer}
 use Rattle.rules.specs.declared.calls.Call.{Call}
 use Rattle.language.specs.Parts.{lines}
 use Rattle.language.specs.Commands.{command_in, letter_of_call}

@@ -52,18 +52,17 @@ fn run_call(board: &mut Board<Pile>, call: &Call<u8>) -> Answer
     perform(board, &lent)
 }
 
-// The byte that a call fills its line with; 0 where it has none.
+// The byte that a call fills its line with; 0 where it has none, and then nothing reads the line.
 fn fill(call: &Call<u8>) -> u8
     ensures is_its_byte { result ≡ byte_of_line call.now }
 {
     match *call {
-        Call::Write { line, .. } => line,
-        Call::Renew { line, .. } => line,
+        Call::Write { line, .. } | Call::Renew { line, .. } => line,
         _ => 0,
     }
 }
 
-// The same call with that line.
+// The same call with that line. A method of `Call` that maps its line would repeat these arms for this one use.
 fn with_line<'a>(call: &Call<u8>, line: &'a [u8]) -> Call<&'a [u8]>
     ensures is_that_call { heard result ≡ with_that_line call.now line.now }
 {

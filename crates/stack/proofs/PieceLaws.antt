@@ -1,5 +1,5 @@
 -- What it says of a piece that it lies in a memory.
-use Rattle.std.proofs.Common.{◌≡◌, ℕ, ◌+◌, ◌-◌, ◌<◌, ◌≤◌, Bool, true, false, cond, List, length, get_or, Ok, Err, Result, sym, refl, ap, ◌∙◌, arith, MatchResult}
+use Rattle.std.proofs.Common.{◌≡◌, ℕ, ◌+◌, ◌-◌, ◌<◌, ◌≤◌, Bool, true, false, cond, List, length, get_or, Ok, Err, Result, sym, refl, ap, ◌∙◌, arith, rules, MatchResult}
 use Rattle.std.proofs.lemmas.Bool.{or_parts, or_from, and_parts, and_from, ltb-false, leb-false, eqb-false, le-ltb, lt-leb, ne_eqb, eqb-true, eq-eqb, leb-true, ltb-true, le-leb, lt-ltb, both_ways, cond-true, cond-false}
 use Rattle.std.proofs.lemmas.List.{same_lists}
 use Rattle.std.proofs.lemmas.List.FromFn.{length-map-range_with_len, get_or-map-range_with_len}
@@ -117,3 +117,8 @@ pub cells_same : (m n : Contents) (bank index from count : ℕ) → ((k : ℕ) �
 cells_same m n bank index from count e =
     is_cells (cells m bank index from count) n bank index from count (length_cells m bank index from count)
     (λ k d h. getD_cells m bank index from count k d h ∙ e (from + k) (omega arith) (omega arith))
+
+-- a piece that is accepted does not lie outside
+pub accepted : (out : Bool) → judged out ≡ Ok tt → out ≡ false
+accepted false e = refl
+accepted true e = search rules

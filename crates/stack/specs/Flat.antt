@@ -1,5 +1,6 @@
 -- Memory laid out flat, in order of bank, index, byte.
-use Rattle.std.specs.Prelude.{◌≡◌, ℕ, ◌+◌, ◌*◌, ◌/◌, ◌%◌, ◌<◌, ◌≤◌, cond, ◌&&◌, List, ◌++◌, length, take, drop, Ok, Err, Result, ◌==◌, nat_le, slice_index}
+use Rattle.std.specs.Prelude.{◌≡◌, ℕ, ◌+◌, ◌*◌, ◌/◌, ◌%◌, ◌<◌, ◌≤◌, cond, ◌&&◌, List, ◌++◌, length, take, drop, Some, None, Option, Ok, Err, Result, ◌==◌, nat_le, slice_index}
+use Rattle.std.specs.Borrow.{MutBor}
 use Rattle.std.proofs.Common.{arith}
 use Rattle.std.proofs.lemmas.Bool.{cond_both, and_parts, leb-true}
 use Rattle.stack.specs.Memory.{Contents, Meaning, Piece, Sound, Fits}
@@ -17,6 +18,10 @@ size_of n = fitting 4608 n
 -- the answer to a length: its size, or a refusal where there is none
 abbrev pub sized : ℕ → Result ℕ Refusal
 sized size = cond (size == 0) (Err LengthFitsNoSize) (Ok size)
+
+-- a size, where it is one
+abbrev pub at_least_one : ℕ → Option ℕ
+at_least_one size = cond (size == 0) None (Some size)
 
 -- where a place lies
 abbrev pub place : ℕ → ℕ → ℕ → ℕ → ℕ
@@ -39,6 +44,11 @@ flat_means xs = record { size = size_of (length xs); kept = flat xs; shown = fla
 -- the bytes with `new` in place of as many of them
 abbrev pub replaced : List ℕ → ℕ → List ℕ → List ℕ
 replaced xs at new = take at xs ++ (new ++ drop (at + length new) xs)
+
+-- lent bytes become those, in the same loan
+pub record Lent (s : MutBor (List ℕ)) (xs : List ℕ) (t : MutBor (List ℕ)) : Type 0 where
+  pub loan : t.ghost_name ≡ s.ghost_name
+  pub bytes : t.now ≡ xs
 
 -- the bytes with a piece written
 abbrev pub written : List ℕ → Piece → List ℕ

@@ -1,5 +1,5 @@
 -- Refusals by their numbers, and what a call on a memory answers.
-use Rattle.std.specs.Prelude.{◌≡◌, ℕ, Bool, true, false, List, length, Ok, Err, Result, MatchResult}
+use Rattle.std.specs.Prelude.{◌≡◌, ℕ, Bool, true, false, List, ◌++◌, length, Ok, Err, Result, MatchResult, codes, decimal}
 use Rattle.stack.specs.Memory.{Contents, Meaning, Piece, cells}
 use Rattle.stack.specs.Pieces.{Accepted}
 use Rattle.stack.specs.declared.refusal.Refusal.{Refusal}
@@ -21,6 +21,10 @@ numbered EmptyMask = 11
 numbered FaultTableFull = 12
 numbered LogFull = 13
 numbered LineUnreadable = 14
+
+-- how a refusal is printed
+abbrev pub refusal_text : Refusal → List ℕ
+refusal_text r = codes "refused with " ++ decimal (numbered r)
 
 -- the answer to a piece: refused where it lies outside
 abbrev pub judged : Bool → Result (Unit {0}) Refusal

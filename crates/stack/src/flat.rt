@@ -1,8 +1,11 @@
 // Memories that lie flat, in order of bank, index and byte, and show what they keep.
-ghost use Rattle.std.specs.Prelude.{◌≡◌, ◌+◌, ◌<◌, ◌≤◌, false, length, take, drop};
-ghost use Rattle.stack.specs.Memory.{outside};
-ghost use Rattle.stack.specs.Flat.{Start, fitting, replaced, sized};
+ghost use Rattle.std.specs.Prelude.{◌≡◌, ℕ, ◌+◌, ◌*◌, ◌<◌, ◌≤◌, List, false, length, take, drop};
+ghost use Rattle.stack.specs.Memory.{cells, outside, piece};
+ghost use Rattle.stack.specs.Pieces.{Accepted};
+ghost use Rattle.stack.specs.Flat.{Start, at_least_one, fitting, flat_means, flat_sound, replaced, size_of, sized, written};
 
+use super::memory::Stack;
+use super::place::Place;
 use super::refusal::Refusal;
 
 pub mod bytes;
@@ -17,35 +20,141 @@ const UNIT: usize = 4608;
 // The bytes at each index of a bank.
 const LINE: usize = 64;
 
-// The size that a length fits, where each unit of size takes `unit` entries; 0 where it fits none from 1 to 1,024.
-fn size_of(length: usize, unit: usize) -> usize
-    requires some { 0 < unit }
-    ensures fits { result ≡ fitting unit length }
-{
-    if length % unit == 0 && length / unit <= MOST {
-        length / unit
-    } else {
-        0
+// What a flat memory keeps its bytes in: entries of one byte each, or of several.
+pub trait Entries: Drop {
+    // The bytes, in order.
+    ghost bytes: { Self → List ℕ };
+
+    // What it becomes exactly when its bytes become those.
+    ghost becomes: { Self → List ℕ → Self → Type 0 };
+
+    // The bytes of an entry.
+    ghost width: { ℕ };
+
+    // The size that so many entries fit, if they fit one from 1 to 1,024.
+    fn size_for(entries: usize) -> Option<usize>
+        ensures fits { result ≡ at_least_one (size_of (width * entries)) };
+
+    // How many entries there are.
+    fn count(&self) -> usize
+        ensures counts { width * result ≡ length (bytes self.now) };
+
+    // Copies a part of the bytes.
+    fn read_at(&self, start: usize, into: &mut [u8])
+        requires lies { start + length into.old ≤ length (bytes self.now) }
+        ensures copies { into.new ≡ take (length into.old) (drop start (bytes self.now)) };
+
+    // Writes a part of the bytes.
+    fn write_at(&mut self, start: usize, part: &[u8])
+        requires lies { start + length part.now ≤ length (bytes self.old) }
+        ensures writes { becomes self.old (replaced (bytes self.old) start part.now) self.new };
+
+    ghost holds: { (s t : Self) (xs : List ℕ) → becomes s xs t → bytes t ≡ xs };
+}
+
+// A memory of 4,608 bytes for each unit of size; of size 0 where its entries fit none.
+#[derive(Drop)]
+pub struct FlatMemory<B: Entries> {
+    // what its bytes are kept in
+    pub bytes: B,
+}
+
+impl<B: Entries> FlatMemory<B> {
+    // The size that so many entries give, or their refusal.
+    pub fn check_length(length: usize) -> Result<usize, Refusal>
+        ensures answers { result ≡ sized (size_of (B.width * length)) }
+    {
+        B::size_for(length).ok_or(Refusal::LengthFitsNoSize)
+    }
+
+    // A memory in those entries.
+    pub fn new(bytes: B) -> FlatMemory<B>
+        ensures holds { result.bytes ≡ bytes }
+    {
+        FlatMemory { bytes }
+    }
+
+    // The entries back.
+    pub fn into_inner(self) -> B
+        ensures gives { result ≡ self.bytes }
+    {
+        let FlatMemory { bytes } = self;
+        bytes
     }
 }
 
-// The size, or the refusal of a length that fits none.
-fn checked(size: usize) -> Result<usize, Refusal>
-    ensures answers { result ≡ sized size }
-{
-    if size == 0 {
-        return Err(Refusal::LengthFitsNoSize);
+impl<B: Entries> FlatMemory<B> {
+    // Copies the shown bytes of a piece that lies in the memory.
+    fn load(&self, at: Place, into: &mut [u8])
+        requires lies { outside (size_of (length (B.bytes self.now.bytes))) at.bank at.index at.byte (length into.old) ≡ false }
+        ensures copies { into.new ≡ cells (flat_means (B.bytes self.now.bytes)).shown at.bank at.index at.byte (length into.old) }
+    {
+        self.bytes.read_at(start(self.size(), at, into.len()), into);
     }
-    Ok(size)
+
+    // Keeps the bytes of a piece that lies in the memory.
+    fn store(&mut self, at: Place, bytes: &[u8])
+        requires lies { outside (size_of (length (B.bytes self.old.bytes))) at.bank at.index at.byte (length bytes.now) ≡ false }
+        ensures stores { Accepted (λ s. flat_means (B.bytes s.bytes)) (λ s p t. B.becomes s.bytes (written (B.bytes s.bytes) p) t.bytes)
+            self.old (piece at.bank at.index at.byte bytes.now) self.new }
+    {
+        let from = start(self.size(), at, bytes.len());
+        self.bytes.write_at(from, bytes);
+    }
+}
+
+impl<B: Entries> Stack for FlatMemory<B> {
+    ghost means = { λ s. flat_means (B.bytes s.bytes) };
+
+    ghost puts = { λ s p t. B.becomes s.bytes (written (B.bytes s.bytes) p) t.bytes };
+
+    ghost settles = { λ s t. t ≡ s };
+
+    ghost passes = { λ s t. t ≡ s };
+
+    ghost sound = { λ s. flat_sound (B.bytes s.bytes) };
+
+    fn size(&self) -> usize {
+        B::size_for(self.bytes.count()).unwrap_or(0)
+    }
+
+    fn fetch(&self, at: Place, into: &mut [u8]) -> Result<(), Refusal> {
+        at.check(self.size(), into.len())?;
+        self.load(at, into);
+        Ok(())
+    }
+
+    fn put(&mut self, at: Place, bytes: &[u8]) -> Result<(), Refusal> {
+        at.check(self.size(), bytes.len())?;
+        self.store(at, bytes);
+        Ok(())
+    }
+
+    fn settle(&mut self) {}
+
+    fn pass(&mut self) {}
+}
+
+// The size that so many entries fit, where each unit of size takes `unit` of them.
+fn fit(entries: usize, unit: usize) -> Option<usize>
+    requires some { 0 < unit }
+    ensures fits { result ≡ at_least_one (fitting unit entries) }
+{
+    let size = entries / unit;
+    if entries % unit == 0 && size >= 1 && size <= MOST {
+        Some(size)
+    } else {
+        None
+    }
 }
 
 // Where a piece of `count` bytes begins.
-fn start(size: usize, bank: usize, index: usize, from: usize, count: usize) -> usize
+fn start(size: usize, at: Place, count: usize) -> usize
     requires small { size ≤ 1024 }
-    requires lies { outside size bank index from count ≡ false }
-    ensures starts { Start size bank index from count result }
+    requires lies { outside size at.bank at.index at.byte count ≡ false }
+    ensures starts { Start size at.bank at.index at.byte count result }
 {
-    (bank * size + index) * 64 + from
+    (at.bank * size + at.index) * 64 + at.byte
 }
 
 // Copies bytes into as many others. A whole line goes by an array of its own, so that it is moved in wide steps: the compiler cannot know
@@ -64,7 +173,7 @@ fn copy_bytes(into: &mut [u8], bytes: &[u8])
 }
 
 // Copies a part of the bytes.
-fn read_at(bytes: &[u8], at: usize, into: &mut [u8])
+fn read_part(bytes: &[u8], at: usize, into: &mut [u8])
     requires lies { at + length into.old ≤ length bytes.now }
     ensures copies { into.new ≡ take (length into.old) (drop at bytes.now) }
 {
@@ -73,7 +182,7 @@ fn read_at(bytes: &[u8], at: usize, into: &mut [u8])
 }
 
 // Writes a part of the bytes.
-fn write_at(bytes: &mut [u8], at: usize, part: &[u8])
+fn write_part(bytes: &mut [u8], at: usize, part: &[u8])
     requires lies { at + length part.now ≤ length bytes.old }
     ensures writes { bytes.new ≡ replaced bytes.old at part.now }
 {

@@ -1,7 +1,8 @@
-// What a memory of banks, indexes and bytes means, and two memories that show what they keep.
+// What a memory of banks, indexes and bytes means, and memories that show what they keep.
 #![tactic(auto)]
 
 pub mod flat;
 pub mod located;
 pub mod memory;
+pub mod place;
 pub mod refusal;

@@ -19,10 +19,7 @@ pub trait Located {
 pub fn first_at<E: Located>(entries: &[E], bank: usize, index: usize) -> Option<usize>
     ensures is_first { result ≡ first_of E.Located.bank_of E.Located.index_of bank index entries.now }
 {
-    for (i, entry) in entries.iter().enumerate() {
-        if entry.bank() == bank && entry.index() == index {
-            return Some(i);
-        }
-    }
-    None
+    entries
+        .iter()
+        .position(|entry| entry.bank() == bank && entry.index() == index)
 }

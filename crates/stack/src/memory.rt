@@ -3,6 +3,7 @@ ghost use Rattle.std.specs.Prelude.{◌≡◌, length};
 ghost use Rattle.stack.specs.Memory.{Meaning, Piece, Rest, Sound, outside, piece};
 ghost use Rattle.stack.specs.Refusals.{Fetched, Stored, judged};
 
+use super::place::Place;
 use super::refusal::Refusal;
 
 // A memory of 72 banks with `size` indexes each and 64 bytes at each index. At every place one byte is kept
@@ -26,14 +27,14 @@ pub trait Stack {
         ensures is_size { result ≡ (means self.now).size };
 
     // Copies the shown bytes of a piece, as many as the buffer holds.
-    fn fetch(&self, bank: usize, index: usize, from: usize, into: &mut [u8]) -> Result<(), Refusal>
-        ensures refuses { result ≡ judged (outside (means self.now).size bank index from (length into.old)) }
-        ensures copies { Fetched result (means self.now).shown bank index from into.old into.new };
+    fn fetch(&self, at: Place, into: &mut [u8]) -> Result<(), Refusal>
+        ensures refuses { result ≡ judged (outside (means self.now).size at.bank at.index at.byte (length into.old)) }
+        ensures copies { Fetched result (means self.now).shown at.bank at.index at.byte into.old into.new };
 
     // Makes the kept bytes of a piece those given.
-    fn put(&mut self, bank: usize, index: usize, from: usize, bytes: &[u8]) -> Result<(), Refusal>
-        ensures refuses { result ≡ judged (outside (means self.old).size bank index from (length bytes.now)) }
-        ensures stores { Stored result means puts self.old (piece bank index from bytes.now) self.new };
+    fn put(&mut self, at: Place, bytes: &[u8]) -> Result<(), Refusal>
+        ensures refuses { result ≡ judged (outside (means self.old).size at.bank at.index at.byte (length bytes.now)) }
+        ensures stores { Stored result means puts self.old (piece at.bank at.index at.byte bytes.now) self.new };
 
     // Puts down what layers hold back.
     fn settle(&mut self)
@@ -44,11 +45,4 @@ pub trait Stack {
     fn pass(&mut self)
         ensures keeps { Rest (means self.old) (means self.new) }
         ensures exactly { passes self.old self.new };
-}
-
-// Whether a piece of `count` bytes is empty or lies outside a memory of `size` indexes.
-pub fn is_outside(size: usize, bank: usize, index: usize, from: usize, count: usize) -> bool
-    ensures is_outside { result ≡ outside size bank index from count }
-{
-    bank > 71 || index >= size || count == 0 || count > 64 || from > 64 - count
 }

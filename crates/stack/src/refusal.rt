@@ -1,6 +1,9 @@
 // Why a call is refused: one enum for the whole library.
-ghost use Rattle.std.specs.Prelude.{◌≡◌};
-ghost use Rattle.stack.specs.Refusals.{numbered};
+ghost use Rattle.std.specs.Prelude.{◌≡◌, Some};
+ghost use Rattle.stack.specs.Refusals.{numbered, refusal_text};
+
+use std::error::Error;
+use std::fmt;
 
 #[derive(Clone, Copy, PartialEq, Eq, Debug)]
 pub enum Refusal {
@@ -57,3 +60,15 @@ impl Refusal {
         }
     }
 }
+
+// As programs print it.
+impl fmt::Display for Refusal {
+    ghost output = { λ r. Some (refusal_text r) };
+
+    fn fmt<W: fmt::Write>(&self, f: &mut fmt::Formatter<W>) -> fmt::Result {
+        let number = self.number();
+        write!(f, "refused with {number}")
+    }
+}
+
+impl Error for Refusal {}

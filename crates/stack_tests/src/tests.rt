@@ -4,6 +4,7 @@ use layers::injector::FaultInjector;
 use stack::flat::bytes::ByteMemory;
 use stack::flat::words::WordMemory;
 use stack::memory::Stack;
+use stack::place::Place;
 use stack::refusal::Refusal;
 use std::alloc::Global;
 use std::process::Abort;
@@ -16,7 +17,8 @@ mod free;
 mod memories;
 mod piles;
 
-// One step of a play. A place is a bank, an index and a byte.
+// One step of a play: data, since one table of steps is played on piles of several types. A place is a bank, an index and a byte: a constant
+// calls no function that would name them.
 #[derive(Clone, Copy)]
 enum Step {
     // so many bytes of one value are put from a place on
@@ -32,13 +34,8 @@ enum Step {
 
 // The call was refused, by that number.
 fn refused(rt: &impl Abort, answer: Result<(), Refusal>, number: u8) -> Result<(), Fail> {
-    match answer {
-        Ok(()) => Err(Fail::new("accepted")),
-        Err(why) => {
-            assert!(rt; why.number() == number);
-            Ok(())
-        },
-    }
+    assert_eq!(rt; answer.map_err(|why| why.number()), Err(number));
+    Ok(())
 }
 
 // Every byte has that value.
@@ -48,19 +45,19 @@ fn all(rt: &impl Abort, bytes: &[u8], value: u8) {
     }
 }
 
-fn put<S: Stack>(stack: &mut S, at: (usize, usize, usize), bytes: &[u8]) -> Result<(), Fail> {
-    stack.put(at.0, at.1, at.2, bytes)?;
-    Ok(())
+// The place of a step.
+fn place((bank, index, byte): (usize, usize, usize)) -> Place {
+    Place { bank, index, byte }
 }
 
 fn shows<S: Stack>(
     rt: &impl Abort,
     stack: &S,
-    at: (usize, usize, usize),
+    at: Place,
     into: &mut [u8],
     value: u8,
 ) -> Result<(), Fail> {
-    stack.fetch(at.0, at.1, at.2, into)?;
+    stack.fetch(at, into)?;
     all(rt, into, value);
     Ok(())
 }
@@ -68,12 +65,12 @@ fn shows<S: Stack>(
 fn refuses<S: Stack>(
     rt: &impl Abort,
     stack: &mut S,
-    at: (usize, usize, usize),
+    at: Place,
     into: &mut [u8],
 ) -> Result<(), Fail> {
     into.fill(0xEE);
-    refused(rt, stack.put(at.0, at.1, at.2, into), 9)?;
-    refused(rt, stack.fetch(at.0, at.1, at.2, into), 9)?;
+    refused(rt, stack.put(at, into), 9)?;
+    refused(rt, stack.fetch(at, into), 9)?;
     all(rt, into, 0xEE);
     Ok(())
 }
@@ -90,15 +87,16 @@ fn take<S: Stack>(rt: &impl Abort, stack: &mut S, step: Step) -> Result<(), Fail
         Step::Put(at, count, value) => {
             assert!(rt; count <= 65);
             bytes.fill(value);
-            put(stack, at, &bytes[0..count])
+            stack.put(place(at), &bytes[0..count])?;
+            Ok(())
         }
         Step::Refused(at, count) => {
             assert!(rt; count <= 65);
-            refuses(rt, stack, at, &mut bytes[0..count])
+            refuses(rt, stack, place(at), &mut bytes[0..count])
         }
         Step::Shows(at, count, value) => {
             assert!(rt; count <= 65);
-            shows(rt, stack, at, &mut bytes[0..count], value)
+            shows(rt, stack, place(at), &mut bytes[0..count], value)
         }
         Step::Settle => {
             stack.settle();

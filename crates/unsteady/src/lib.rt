@@ -7,7 +7,8 @@ ghost use Rattle.stack.specs.Memory.{Put, outside, piece};
 ghost use Rattle.unsteady.specs.Noise.{meaning, noisy, noisy_sound};
 
 use stack::flat::bytes::ByteMemory;
-use stack::memory::{Stack, is_outside};
+use stack::memory::Stack;
+use stack::place::Place;
 use stack::refusal::Refusal;
 
 // XORs the noise into the bytes.
@@ -37,13 +38,13 @@ impl Unsteady {
     }
 
     // Keeps bytes at a piece's places, and shows any others there.
-    fn put_both(&mut self, bank: usize, index: usize, from: usize, bytes: &[u8], any: &[u8])
-        requires lies { outside (meaning self.old).size bank index from (length bytes.now) ≡ false }
+    fn put_both(&mut self, at: Place, bytes: &[u8], any: &[u8])
+        requires lies { outside (meaning self.old).size at.bank at.index at.byte (length bytes.now) ≡ false }
         requires alike { length any.now ≡ length bytes.now }
-        ensures stores { Put (meaning self.old) (piece bank index from bytes.now) (meaning self.new) }
+        ensures stores { Put (meaning self.old) (piece at.bank at.index at.byte bytes.now) (meaning self.new) }
     {
-        let _ = self.kept.put(bank, index, from, bytes);
-        let _ = self.shown.put(bank, index, from, any);
+        let _ = self.kept.put(at, bytes);
+        let _ = self.shown.put(at, any);
     }
 
     // The memory of what is kept.
@@ -68,28 +69,18 @@ impl Stack for Unsteady {
         }
     }
 
-    fn fetch(
-        &self,
-        bank: usize,
-        index: usize,
-        from: usize,
-        into: &mut [u8],
-    ) -> Result<(), Refusal> {
-        if is_outside(self.size(), bank, index, from, into.len()) {
-            return Err(Refusal::PlaceOutOfRange);
-        }
-        let _ = self.shown.fetch(bank, index, from, into);
+    fn fetch(&self, at: Place, into: &mut [u8]) -> Result<(), Refusal> {
+        at.check(self.size(), into.len())?;
+        let _ = self.shown.fetch(at, into);
         disturb(self.noise, into);
         Ok(())
     }
 
     // The piece shows bytes that have nothing to do with those put.
-    fn put(&mut self, bank: usize, index: usize, from: usize, bytes: &[u8]) -> Result<(), Refusal> {
-        if is_outside(self.size(), bank, index, from, bytes.len()) {
-            return Err(Refusal::PlaceOutOfRange);
-        }
+    fn put(&mut self, at: Place, bytes: &[u8]) -> Result<(), Refusal> {
+        at.check(self.size(), bytes.len())?;
         let any = [self.noise.wrapping_mul(3); 64];
-        self.put_both(bank, index, from, bytes, &any[0..bytes.len()]);
+        self.put_both(at, bytes, &any[0..bytes.len()]);
         Ok(())
     }
 

@@ -8,30 +8,30 @@ mod table;
 
 #[cfg(test)]
 mod tests {
-    use crate::damaged::{DAMAGED, Damaged, Said};
+    use crate::damaged::{DAMAGED, Damaged};
     use crate::table::VECTORS;
     use codec::code::{check_of, decode, judge};
     use codec::export::{codec_check, codec_decode};
     use codec::strength::generator;
-    use codec::word::{Check, Finding, Uncorrectable, Word};
+    use codec::word::{Check, Finding, FullCheck, Line, Uncorrectable, Word};
     use std::process::Abort;
 
     // the zero line but for its last two bytes
-    fn ending(a: u8, b: u8) -> [u8; 64] {
+    fn ending(a: u8, b: u8) -> Line {
         let mut line = [0; 64];
         line[62] = a;
         line[63] = b;
         line
     }
 
-    fn full(line: [u8; 64], check: [u8; 6]) -> Word {
+    fn full(line: Line, check: FullCheck) -> Word {
         Word {
             line,
             check: Check::Full(check),
         }
     }
 
-    fn short(line: [u8; 64], check: [u8; 6]) -> Word {
+    fn short(line: Line, check: FullCheck) -> Word {
         let [a, b, c, d, e, _] = check;
         Word {
             line,
@@ -39,24 +39,18 @@ mod tests {
         }
     }
 
-    // What decoding answers; the line it hands out must be the one expected.
-    fn decoded(
+    // What decoding or judging answers; a line that it hands out must be the one expected.
+    fn answered<F: FnOnce(&Word, &mut Line) -> Result<Finding, Uncorrectable>>(
         rt: &impl Abort,
+        call: F,
         word: &Word,
-        expected: &[u8; 64],
-    ) -> Result<Finding, Uncorrectable> {
+        expected: &Line,
+    ) -> Result<Finding, Uncorrectable>
+        requires takes_any_word { F.IsAlwaysCallable call }
+    {
         let mut line = [7; 64];
-        let r = decode(word, &mut line);
-        assert!(rt; r.is_err() || line == *expected);
-        assert!(rt; r.is_ok() || line == [7; 64]);
-        r
-    }
-
-    fn judged(rt: &impl Abort, word: &Word, expected: &[u8; 64]) -> Result<Finding, Uncorrectable> {
-        let mut line = [7; 64];
-        let r = judge(word, &mut line);
-        assert!(rt; r.is_err() || line == *expected);
-        assert!(rt; r.is_ok() || line == [7; 64]);
+        let r = call(word, &mut line);
+        assert!(rt; line == r.map_or([7; 64], |_| *expected));
         r
     }
 
@@ -74,48 +68,61 @@ mod tests {
         let zero = [0; 64];
         let mut first = zero;
         first[0] = 1;
-        assert!(rt; decoded(&rt, &full(first, [0; 6]), &zero) == Ok(Finding::Corrected((0, 1))));
         assert!(rt;
-            decoded(&rt, &full(zero, [0, 0, 0, 0, 0xFF, 0xFF]), &zero) == Ok(Finding::Clean)
+            answered(&rt, decode, &full(first, [0; 6]), &zero) == Ok(Finding::Corrected((0, 1)))
+        );
+        assert!(rt;
+            answered(&rt, decode, &full(zero, [0, 0, 0, 0, 0xFF, 0xFF]), &zero)
+                == Ok(Finding::Clean)
         );
         let last = ending(0, 1);
         assert!(rt;
-            decoded(&rt, &full(last, [0x1E, 0xD8, 0xE7, 0x74, 0, 0]), &last) == Ok(Finding::Clean)
+            answered(
+                &rt,
+                decode,
+                &full(last, [0x1E, 0xD8, 0xE7, 0x74, 0, 0]),
+                &last
+            ) == Ok(Finding::Clean)
         );
         assert!(rt;
-            decoded(&rt, &full(last, [0x1E, 0xD8, 0xE7, 0, 0x54, 0x92]), &last)
-                == Ok(Finding::Corrected((67, 0x74)))
+            answered(
+                &rt,
+                decode,
+                &full(last, [0x1E, 0xD8, 0xE7, 0, 0x54, 0x92]),
+                &last
+            ) == Ok(Finding::Corrected((67, 0x74)))
         );
         first[1] = 1;
-        assert!(rt; decoded(&rt, &full(first, [0; 6]), &zero) == Err(Uncorrectable));
+        assert!(rt; answered(&rt, decode, &full(first, [0; 6]), &zero) == Err(Uncorrectable));
     }
 
     #[test]
     fn judging_looks_at_the_second_check(rt: HostRuntime) {
         let zero = [0; 64];
-        assert!(rt; judged(&rt, &full(zero, [0; 6]), &zero) == Ok(Finding::Rebuilt));
+        assert!(rt; answered(&rt, judge, &full(zero, [0; 6]), &zero) == Ok(Finding::Rebuilt));
         assert!(rt;
-            judged(&rt, &full(zero, [0, 0, 0, 0, 9, 0]), &zero)
+            answered(&rt, judge, &full(zero, [0, 0, 0, 0, 9, 0]), &zero)
                 == Ok(Finding::RebuiltCorrected((68, 9)))
         );
         assert!(rt;
-            judged(&rt, &full(zero, [0, 0, 0, 0, 0, 9]), &zero)
+            answered(&rt, judge, &full(zero, [0, 0, 0, 0, 0, 9]), &zero)
                 == Ok(Finding::RebuiltCorrected((69, 9)))
         );
-        assert!(rt; judged(&rt, &full(zero, [0, 0, 0, 0, 9, 9]), &zero) == Err(Uncorrectable));
         assert!(rt;
-            judged(&rt, &short(zero, [0, 0, 0, 0, 9, 0]), &zero)
+            answered(&rt, judge, &full(zero, [0, 0, 0, 0, 9, 9]), &zero) == Err(Uncorrectable)
+        );
+        assert!(rt;
+            answered(&rt, judge, &short(zero, [0, 0, 0, 0, 9, 0]), &zero)
                 == Ok(Finding::RebuiltCorrected((68, 9)))
         );
     }
 
     // The line and the check of a vector.
-    fn parts(vector: &[u8; 70]) -> ([u8; 64], [u8; 6]) {
-        let mut line = [0; 64];
-        line.copy_from_slice(&vector[0..64]);
-        let mut check = [0; 6];
-        check.copy_from_slice(&vector[64..70]);
-        (line, check)
+    fn parts(vector: &[u8; 70]) -> (Line, FullCheck) {
+        (
+            *vector.first_chunk().unwrap(),
+            *vector.last_chunk().unwrap(),
+        )
     }
 
     #[test]
@@ -123,10 +130,10 @@ mod tests {
         for vector in &VECTORS {
             let (line, symbols) = parts(vector);
             assert!(rt; check_of(&line) == symbols);
-            assert!(rt; decoded(&rt, &full(line, symbols), &line) == Ok(Finding::Clean));
-            assert!(rt; decoded(&rt, &short(line, symbols), &line) == Ok(Finding::Clean));
-            assert!(rt; judged(&rt, &full(line, symbols), &line) == Ok(Finding::Rebuilt));
-            assert!(rt; judged(&rt, &short(line, symbols), &line) == Ok(Finding::Rebuilt));
+            assert!(rt; answered(&rt, decode, &full(line, symbols), &line) == Ok(Finding::Clean));
+            assert!(rt; answered(&rt, decode, &short(line, symbols), &line) == Ok(Finding::Clean));
+            assert!(rt; answered(&rt, judge, &full(line, symbols), &line) == Ok(Finding::Rebuilt));
+            assert!(rt; answered(&rt, judge, &short(line, symbols), &line) == Ok(Finding::Rebuilt));
         }
     }
 
@@ -139,10 +146,12 @@ mod tests {
                 let mut wrong = line;
                 wrong[s] ^= 0x5A;
                 assert!(rt;
-                    decoded(&rt, &full(wrong, symbols), &line) == Ok(Finding::Corrected((s, 0x5A)))
+                    answered(&rt, decode, &full(wrong, symbols), &line)
+                        == Ok(Finding::Corrected((s, 0x5A)))
                 );
                 assert!(rt;
-                    decoded(&rt, &short(wrong, symbols), &line) == Ok(Finding::Corrected((s, 0x5A)))
+                    answered(&rt, decode, &short(wrong, symbols), &line)
+                        == Ok(Finding::Corrected((s, 0x5A)))
                 );
             }
         }
@@ -157,8 +166,12 @@ mod tests {
             wrong[3] ^= 1;
             for s in [10, 40, 63] {
                 wrong[s] ^= 0xC3;
-                assert!(rt; decoded(&rt, &full(wrong, symbols), &line) == Err(Uncorrectable));
-                assert!(rt; decoded(&rt, &short(wrong, symbols), &line) == Err(Uncorrectable));
+                assert!(rt;
+                    answered(&rt, decode, &full(wrong, symbols), &line) == Err(Uncorrectable)
+                );
+                assert!(rt;
+                    answered(&rt, decode, &short(wrong, symbols), &line) == Err(Uncorrectable)
+                );
             }
         }
     }
@@ -186,30 +199,20 @@ mod tests {
     fn shown(rt: &impl Abort, damaged: &Damaged) -> [u8; 70] {
         assert!(rt; damaged.line < VECTORS.len());
         let mut symbols = VECTORS[damaged.line];
-        for k in 0..5 {
-            let s = damaged.wrong[k];
-            assert!(rt; s < 70);
-            symbols[s] ^= damaged.xors[k];
+        for (s, xor) in damaged.wrong {
+            assert!(rt; *s < symbols.len());
+            symbols[*s] ^= *xor;
         }
         symbols
     }
 
-    // What decoding is to answer.
-    fn answer(damaged: &Damaged, said: Said) -> Result<Finding, Uncorrectable> {
-        match said {
-            Said::Clean => Ok(Finding::Clean),
-            Said::Corrected => Ok(Finding::Corrected((damaged.symbol, damaged.xor))),
-            Said::Uncorrectable => Err(Uncorrectable),
-        }
-    }
-
     // The line to be handed out: as shown, but for a corrected symbol of it.
-    fn handed_out(line: [u8; 64], answer: Result<Finding, Uncorrectable>) -> [u8; 64] {
+    fn handed_out(line: Line, answer: Result<Finding, Uncorrectable>) -> Line {
         let mut right = line;
-        if let Ok(Finding::Corrected((s, x))) = answer {
-            if s < 64 {
-                right[s] ^= x;
-            }
+        if let Ok(Finding::Corrected((s, x))) = answer
+            && s < right.len()
+        {
+            right[s] ^= x;
         }
         right
     }
@@ -218,11 +221,22 @@ mod tests {
     fn a_second_program_agrees_on_damaged_words(rt: HostRuntime) {
         for damaged in &DAMAGED {
             let (line, symbols) = parts(&shown(&rt, damaged));
-            let of_full = answer(damaged, damaged.full);
-            assert!(rt; decoded(&rt, &full(line, symbols), &handed_out(line, of_full)) == of_full);
-            let of_short = answer(damaged, damaged.short);
+            let (of_full, of_short) = (damaged.full, damaged.short);
             assert!(rt;
-                decoded(&rt, &short(line, symbols), &handed_out(line, of_short)) == of_short
+                answered(
+                    &rt,
+                    decode,
+                    &full(line, symbols),
+                    &handed_out(line, of_full)
+                ) == of_full
+            );
+            assert!(rt;
+                answered(
+                    &rt,
+                    decode,
+                    &short(line, symbols),
+                    &handed_out(line, of_short)
+                ) == of_short
             );
         }
     }

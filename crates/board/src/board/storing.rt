@@ -8,16 +8,17 @@ ghost use Rattle.rules.specs.Rules.{answer, along_banks, part, piece_at, when};
 ghost use Rattle.rules.specs.History.{Formatted, Given};
 ghost use Rattle.rules.specs.Work.{formatting, parity_after as parity_to_put};
 ghost use Rattle.rules.specs.declared.calls.Call.TheVariants.{Write, Renew, Clear};
-ghost use Rattle.board.specs.State.{Answers, state, Ran, PutsOf, MarksOf, FormatRun, Zeroed, Stores, StoresBank, cleared_pieces};
+ghost use Rattle.board.specs.State.{Answers, state, Ran, PutsOf, MarksOf, FormatRun, Zeroed, Stores, StoresBank, TellsStorable, cleared_pieces};
 ghost use Rattle.board.specs.Told.{told_write, told_renew, told_clear};
 
 use super::super::lines::xor_into;
 use super::super::marks::Marks;
-use super::Board;
+use super::{Board, Site};
 use codec::code::check_of;
-use codec::word::Finding;
+use codec::word::{Finding, Line};
 use rules::roles::Role;
 use stack::memory::Stack;
+use stack::place::Place;
 use stack::refusal::Refusal;
 
 impl<S: Stack> Board<S> {
@@ -42,18 +43,15 @@ impl<S: Stack> Board<S> {
         ensures marks_as_ruled { MarksOf S.Stack self.old (Write address line.now) self.new }
         ensures takes_bytes { Given (Write address line.now) }
     {
-        if address / 64 >= self.stack.size() {
-            return Err(Refusal::AddressOutOfRange);
-        }
-        if line.len() != 64 {
-            return Err(Refusal::LineLength);
-        }
-        let mut new = [0u8; 64];
-        new.copy_from_slice(line);
+        let new = self.storable(address, line)?;
         let mut old = [0u8; 64];
-        let finding = self.read_line(address, &mut old)?;
-        let parity = self.parity_after(address, &old, &new);
-        self.store(address, &new, &parity);
+        let site = Site {
+            board: self,
+            address,
+        };
+        let finding = site.read_line(&mut old)?;
+        let parity = site.parity_after(&old, new);
+        self.store(address, new, &parity);
         Ok(finding)
     }
 
@@ -64,17 +62,14 @@ impl<S: Stack> Board<S> {
         ensures marks_as_ruled { MarksOf S.Stack self.old (Renew address line.now) self.new }
         ensures takes_bytes { Given (Renew address line.now) }
     {
-        if address / 64 >= self.stack.size() {
-            return Err(Refusal::AddressOutOfRange);
-        }
-        if line.len() != 64 {
-            return Err(Refusal::LineLength);
-        }
-        let mut new = [0u8; 64];
-        new.copy_from_slice(line);
-        let mut parity = new;
-        self.add_partners(address, &mut parity)?;
-        self.store(address, &new, &parity);
+        let new = self.storable(address, line)?;
+        let mut parity = *new;
+        let site = Site {
+            board: self,
+            address,
+        };
+        site.add_partners(&mut parity)?;
+        self.store(address, new, &parity);
         Ok(())
     }
 
@@ -84,28 +79,21 @@ impl<S: Stack> Board<S> {
         ensures puts_as_ruled { PutsOf S.Stack self.old (Clear address) self.new }
         ensures marks_as_ruled { MarksOf S.Stack self.old (Clear address) self.new }
     {
-        if address / 64 >= self.stack.size() {
-            return Err(Refusal::AddressOutOfRange);
-        }
+        self.check_address(address)?;
         self.clear_group(address % 64, address / 64);
         Ok(())
     }
 
-    // The parity line to be put with a line that takes an old one's place.
-    fn parity_after(&self, address: usize, old: &[u8; 64], new: &[u8; 64]) -> [u8; 64]
-        requires in_range { address / 64 < (S.Stack.means self.now.stack).size }
-        ensures is_that_parity { result ≡ parity_to_put (state S.Stack self.now) address old.now new.now }
+    // The line to be stored at an address, if there is such an address and the line is as long as lines are.
+    fn storable<'a>(&self, address: usize, line: &'a [u8]) -> Result<&'a Line, Refusal>
+        ensures tells_whether { TellsStorable (S.Stack.means self.now.stack).size address line.now result }
     {
-        let bank = self.marks.parity_bank(address % 64);
-        let mut parity = [0u8; 64];
-        let _ = self.stack.fetch(bank, address / 64, 0, &mut parity);
-        xor_into(&mut parity, old);
-        xor_into(&mut parity, new);
-        parity
+        self.check_address(address)?;
+        <&Line>::try_from(line).map_err(|_| Refusal::LineLength)
     }
 
     // Stores a line, its check and the parity line, bank after bank; the banks passed over get nothing of them.
-    fn store(&mut self, address: usize, line: &[u8; 64], parity: &[u8; 64])
+    fn store(&mut self, address: usize, line: &Line, parity: &Line)
         requires in_range { address / 64 < (S.Stack.means self.old.stack).size }
         ensures stores { Stores S.Stack self.old address line.now parity.now self.new }
     {
@@ -113,8 +101,8 @@ impl<S: Stack> Board<S> {
         let b = address % 64;
         self.store_bank(b, address, line, &check, parity);
         self.store_bank(64 + b / 16, address, line, &check, parity);
-        for n in 0..4 {
-            self.store_bank(68 + n, address, line, &check, parity);
+        for bank in 68..72 {
+            self.store_bank(bank, address, line, &check, parity);
         }
     }
 
@@ -123,9 +111,9 @@ impl<S: Stack> Board<S> {
         &mut self,
         bank: usize,
         address: usize,
-        line: &[u8; 64],
+        line: &Line,
         check: &[u8; 6],
-        parity: &[u8; 64],
+        parity: &Line,
     )
         requires in_range { address / 64 < (S.Stack.means self.old.stack).size }
         requires real_bank { bank < 72 }
@@ -133,27 +121,37 @@ impl<S: Stack> Board<S> {
         ensures stores { StoresBank S.Stack self.old address line.now parity.now bank self.new }
     {
         let b = address % 64;
-        let i = address / 64;
+        let at = Place {
+            bank,
+            index: address / 64,
+            byte: 0,
+        };
         match self.marks.role(bank) {
-            Role::Line(x) => self.put_when(x == b, bank, i, 0, line),
-            Role::First(q) => self.put_when(q == b / 16, bank, i, 4 * (b % 16), &check[0..4]),
-            Role::Second(q) => self.put_when(q == b / 32, bank, i, 2 * (b % 32), &check[4..6]),
-            Role::Fifth => self.put_when(true, bank, i, b, &check[4..5]),
+            Role::Line(x) => self.put_when(x == b, at, line),
+            Role::First(q) => {
+                let byte = 4 * (b % 16);
+                self.put_when(q == b / 16, Place { byte, ..at }, &check[0..4])
+            }
+            Role::Second(q) => {
+                let byte = 2 * (b % 32);
+                self.put_when(q == b / 32, Place { byte, ..at }, &check[4..6])
+            }
+            Role::Fifth => self.put_when(true, Place { byte: b, ..at }, &check[4..5]),
             Role::Parity(g) => {
                 let group = self.marks.parity_bank(b) - 70;
-                self.put_when(g == group, bank, i, 0, parity)
+                self.put_when(g == group, at, parity)
             }
             Role::Retired => {}
         }
     }
 
     // Puts a piece where a test holds.
-    fn put_when(&mut self, test: bool, bank: usize, index: usize, from: usize, bytes: &[u8])
-        requires in_range { Fits (S.Stack.means self.old.stack).size bank index from (length bytes.now) }
-        ensures puts { Ran S.Stack self.old (piece_at (when test (part from bytes.now)) index bank []) self.new }
+    fn put_when(&mut self, test: bool, at: Place, bytes: &[u8])
+        requires in_range { Fits (S.Stack.means self.old.stack).size at.bank at.index at.byte (length bytes.now) }
+        ensures puts { Ran S.Stack self.old (piece_at (when test (part at.byte bytes.now)) at.index at.bank []) self.new }
     {
         if test {
-            let _ = self.stack.put(bank, index, from, bytes);
+            let _ = self.stack.put(at, bytes);
         }
     }
 
@@ -165,9 +163,35 @@ impl<S: Stack> Board<S> {
         let zero = [0u8; 64];
         for bank in 0..72 {
             if self.marks.holds(b, bank) {
-                let _ = self.stack.put(bank, index, 0, &zero);
+                let _ = self.stack.put(
+                    Place {
+                        bank,
+                        index,
+                        byte: 0,
+                    },
+                    &zero,
+                );
             }
         }
+    }
+}
+
+impl<S: Stack> Site<'_, S> {
+    // The parity line to be put with a line that takes an old one's place.
+    fn parity_after(&self, old: &Line, new: &Line) -> Line
+        ensures is_that_parity { result ≡ parity_to_put (state S.Stack self.now.board.now) self.now.address old.now new.now }
+    {
+        let bank = self.board.marks.parity_bank(self.address % 64);
+        let at = Place {
+            bank,
+            index: self.address / 64,
+            byte: 0,
+        };
+        let mut parity = [0u8; 64];
+        let _ = self.board.stack.fetch(at, &mut parity);
+        xor_into(&mut parity, old);
+        xor_into(&mut parity, new);
+        parity
     }
 }
 
@@ -178,7 +202,14 @@ fn zero_index<S: Stack>(stack: &mut S, index: usize)
 {
     let zero = [0u8; 64];
     for bank in 0..72 {
-        let _ = stack.put(bank, index, 0, &zero);
+        let _ = stack.put(
+            Place {
+                bank,
+                index,
+                byte: 0,
+            },
+            &zero,
+        );
     }
 }
 

@@ -8,21 +8,14 @@ ghost use Rattle.layers.specs.Tables.{lines_in};
 
 use super::super::line::BufferedLine;
 use super::{LineTable, WriteBuffer};
+use arrayvec::ArrayVec;
 use stack::located::first_at;
-use stack::memory::{Stack, is_outside};
+use stack::memory::Stack;
+use stack::place::Place;
 use stack::refusal::Refusal;
 
-// How many lines may be buffered, and the first bank whose lines are.
-const ROOM: usize = 16;
-
+// The first bank whose lines are buffered.
 const FIRST_BANK: usize = 64;
-
-// What stands where no line does.
-const NONE: BufferedLine = BufferedLine {
-    bank: 0,
-    index: 0,
-    bytes: [0; 64],
-};
 
 impl LineTable {
     // A table with no line.
@@ -30,8 +23,7 @@ impl LineTable {
         ensures empty { lines_in result ≡ [] }
     {
         LineTable {
-            lines: [NONE; 16],
-            count: 0,
+            lines: ArrayVec::new(),
         }
     }
 
@@ -39,60 +31,52 @@ impl LineTable {
     fn standing(&self) -> &[BufferedLine]
         ensures stands { result.now ≡ lines_in self.now }
     {
-        &self.lines[0..self.count]
+        self.lines.as_slice()
     }
 
     // Whether a put of `count` bytes in that bank, of a line that is not buffered, is buffered.
     fn accepts(&self, bank: usize, count: usize) -> bool
         ensures tells { result ≡ has_room (lines_in self.now) bank count }
     {
-        bank >= FIRST_BANK && count == 64 && self.standing().len() < ROOM
-    }
-
-    // The line at `j`.
-    fn line(&self, j: usize) -> BufferedLine
-        requires stands { j < length (lines_in self.now) }
-        ensures reads { result ≡ slice_index_or (lines_in self.now) j result }
-    {
-        self.lines[j]
+        bank >= FIRST_BANK && count == 64 && !self.lines.is_full()
     }
 
     // Where the line of that bank and index stands.
     fn find(&self, bank: usize, index: usize) -> Option<usize>
-        ensures known { MatchOption result (is_buffered (lines_in self.now) bank index ≡ false) (λ j. j < 16) }
+        ensures known { MatchOption result (is_buffered (lines_in self.now) bank index ≡ false) (λ j. j < length (lines_in self.now)) }
         ensures first { result ≡ first_of (λ l. l.bank) (λ l. l.index) bank index (lines_in self.now) }
     {
         first_at(self.standing(), bank, index)
     }
 
     // Copies a part of the line of that bank and index; false where none is buffered.
-    fn show(&self, bank: usize, index: usize, from: usize, into: &mut [u8]) -> bool
-        requires part { from + length into.old ≤ 64 }
-        ensures found { result ≡ is_buffered (lines_in self.now) bank index }
-        ensures copies { into.new ≡ looked_up result (lines_in self.now) bank index from into.old }
+    fn show(&self, at: Place, into: &mut [u8]) -> bool
+        requires part { at.byte + length into.old ≤ 64 }
+        ensures found { result ≡ is_buffered (lines_in self.now) at.bank at.index }
+        ensures copies { into.new ≡ looked_up result (lines_in self.now) at.bank at.index at.byte into.old }
     {
-        let Some(j) = self.find(bank, index) else {
+        let Some(j) = self.find(at.bank, at.index) else {
             return false;
         };
-        let line = self.lines[j];
-        let count = into.len();
-        into.copy_from_slice(&line.bytes[from..from + count]);
+        let line = self.standing()[j];
+        let end = at.byte + into.len();
+        into.copy_from_slice(&line.bytes[at.byte..end]);
         true
     }
 
     // Writes a part of the line of that bank and index; false where none is buffered.
-    fn rewrite(&mut self, bank: usize, index: usize, from: usize, bytes: &[u8]) -> bool
-        requires part { from + length bytes.now ≤ 64 }
-        ensures found { result ≡ is_buffered (lines_in self.old) bank index }
+    fn rewrite(&mut self, at: Place, bytes: &[u8]) -> bool
+        requires part { at.byte + length bytes.now ≤ 64 }
+        ensures found { result ≡ is_buffered (lines_in self.old) at.bank at.index }
         ensures stays { result ≡ false → self.new ≡ self.old }
-        ensures writes { lines_in self.new ≡ rewritten (lines_in self.old) (piece bank index from bytes.now) }
+        ensures writes { lines_in self.new ≡ rewritten (lines_in self.old) (piece at.bank at.index at.byte bytes.now) }
     {
-        let Some(j) = self.find(bank, index) else {
+        let Some(j) = self.find(at.bank, at.index) else {
             return false;
         };
-        let mut line = self.lines[j];
-        line.bytes[from..from + bytes.len()].copy_from_slice(bytes);
-        self.lines[j] = line;
+        let mut line = self.standing()[j];
+        line.bytes[at.byte..at.byte + bytes.len()].copy_from_slice(bytes);
+        self.lines.as_mut_slice()[j] = line;
         true
     }
 
@@ -109,15 +93,14 @@ impl LineTable {
             bytes: [0; 64],
         };
         line.bytes.copy_from_slice(bytes);
-        self.lines[self.count] = line;
-        self.count += 1;
+        self.lines.push(line);
     }
 
     // Lets go of every line.
     fn clear(&mut self)
         ensures empty { lines_in self.new ≡ [] }
     {
-        self.count = 0;
+        self.lines.clear();
     }
 }
 
@@ -164,40 +147,29 @@ impl<S: Stack> Stack for WriteBuffer<S> {
         self.below.size()
     }
 
-    fn fetch(
-        &self,
-        bank: usize,
-        index: usize,
-        from: usize,
-        into: &mut [u8],
-    ) -> Result<(), Refusal> {
-        if is_outside(self.below.size(), bank, index, from, into.len()) {
-            return Err(Refusal::PlaceOutOfRange);
-        }
-        if self.table.show(bank, index, from, into) {
+    fn fetch(&self, at: Place, into: &mut [u8]) -> Result<(), Refusal> {
+        at.check(self.below.size(), into.len())?;
+        if self.table.show(at, into) {
             return Ok(());
         }
-        self.below.fetch(bank, index, from, into)
+        self.below.fetch(at, into)
     }
 
-    fn put(&mut self, bank: usize, index: usize, from: usize, bytes: &[u8]) -> Result<(), Refusal> {
-        if is_outside(self.below.size(), bank, index, from, bytes.len()) {
-            return Err(Refusal::PlaceOutOfRange);
-        }
-        if self.table.rewrite(bank, index, from, bytes) {
+    fn put(&mut self, at: Place, bytes: &[u8]) -> Result<(), Refusal> {
+        at.check(self.below.size(), bytes.len())?;
+        if self.table.rewrite(at, bytes) {
             return Ok(());
         }
-        if self.table.accepts(bank, bytes.len()) {
-            self.table.push(bank, index, bytes);
+        if self.table.accepts(at.bank, bytes.len()) {
+            self.table.push(at.bank, at.index, bytes);
             return Ok(());
         }
-        self.below.put(bank, index, from, bytes)
+        self.below.put(at, bytes)
     }
 
     fn settle(&mut self) {
-        for j in 0..self.table.standing().len() {
-            let line = self.table.line(j);
-            let _ = self.below.put(line.bank, line.index, 0, &line.bytes);
+        for line in self.table.standing() {
+            let _ = self.below.put(line.start(), &line.bytes);
         }
         self.table.clear();
         self.below.settle();

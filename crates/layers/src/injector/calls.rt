@@ -1,45 +1,35 @@
 // The calls of a fault injector, and those of its table.
-ghost use Rattle.std.specs.Prelude.{◌≡◌, ◌<◌, [], ◌∷◌, ◌++◌, map, length, filter};
+ghost use Rattle.std.specs.Prelude.{◌≡◌, [], map, length, filter, nat_le, if◌then◌else◌, Ok, Err};
+ghost use Rattle.stack.specs.declared.refusal.Refusal.TheVariants.{FaultTableFull};
 ghost use Rattle.stack.specs.Firsts.{first_of};
-ghost use Rattle.layers.specs.Faults.{AgedAt, aged, corrupted, corrupted_all, faulty, faulty_sound, outlasts, struck};
+ghost use Rattle.layers.specs.Faults.{aged, corrupted, corrupted_all, faulty, faulty_sound, outlasts, struck};
 ghost use Rattle.layers.specs.Exact.{InjectorPasses, InjectorPuts, InjectorSettles, Struck};
 ghost use Rattle.layers.specs.Tables.{faults_in};
 
-use super::super::fault::{Fault, FaultKind};
+use super::super::fault::Fault;
 use super::{FaultInjector, FaultTable};
+use arrayvec::ArrayVec;
 use stack::located::first_at;
-use stack::memory::{Stack, is_outside};
+use stack::memory::Stack;
+use stack::place::Place;
 use stack::refusal::Refusal;
 
-// How many faults may stand.
-const ROOM: usize = 64;
-
-// What stands where no fault does.
-const NONE: Fault = Fault {
-    bank: 0,
-    index: 0,
-    byte: 0,
-    kind: FaultKind::Flip,
-    mask: 0,
-    delay: 0,
-};
-
 // Shows the bytes as they are under one fault.
-fn show(fault: &Fault, bank: usize, index: usize, from: usize, into: &mut [u8])
-    ensures shows { into.new ≡ corrupted fault.now bank index from into.old }
+fn show(fault: &Fault, at: Place, into: &mut [u8])
+    ensures shows { into.new ≡ corrupted fault.now at.bank at.index at.byte into.old }
 {
-    if fault.acts_on(bank, index, from, into.len()) {
-        let at = fault.byte - from;
-        into[at] = fault.alter(into[at]);
+    if fault.acts_on(at, into.len()) {
+        let byte = &mut into[fault.byte - at.byte];
+        *byte = fault.alter(*byte);
     }
 }
 
 // Shows the bytes as they are under all of the faults, in their order.
-fn show_all(faults: &[Fault], bank: usize, index: usize, from: usize, into: &mut [u8])
-    ensures shows { into.new ≡ corrupted_all faults.now bank index from into.old }
+fn show_all(faults: &[Fault], at: Place, into: &mut [u8])
+    ensures shows { into.new ≡ corrupted_all faults.now at.bank at.index at.byte into.old }
 {
     for fault in faults {
-        show(fault, bank, index, from, into);
+        show(fault, at, into);
     }
 }
 
@@ -49,8 +39,7 @@ impl FaultTable {
         ensures empty { faults_in result ≡ [] }
     {
         FaultTable {
-            faults: [NONE; 64],
-            count: 0,
+            faults: ArrayVec::new(),
         }
     }
 
@@ -58,52 +47,33 @@ impl FaultTable {
     fn standing(&self) -> &[Fault]
         ensures stands { result.now ≡ faults_in self.now }
     {
-        &self.faults[0..self.count]
+        self.faults.as_slice()
     }
 
-    // One fault more, at the end.
-    fn push(&mut self, fault: Fault)
-        requires room { length (faults_in self.old) < 64 }
-        ensures adds { faults_in self.new ≡ faults_in self.old ++ fault ∷ [] }
+    // One fault more, at the end, where there is room.
+    fn push(&mut self, fault: Fault) -> Result<(), Refusal>
+        ensures refuses { result ≡ (if nat_le 64 (length (faults_in self.old)) then Err FaultTableFull else Ok tt) }
+        ensures adds { Struck result self.old fault self.new }
     {
-        self.faults[self.count] = fault;
-        self.count += 1;
-    }
-
-    // Lowers the delay of the fault at `j`, if it is above 0, by one.
-    fn lower(&mut self, j: usize)
-        requires stands { j < self.old.count }
-        ensures count { self.new.count ≡ self.old.count }
-        ensures ages { AgedAt self.old.faults j self.new.faults }
-    {
-        if self.faults[j].delay > 0 {
-            self.faults[j].delay -= 1;
-        }
+        self.faults
+            .try_push(fault)
+            .map_err(|_| Refusal::FaultTableFull)
     }
 
     // Lowers each delay above 0 by one.
     fn age(&mut self)
         ensures ages { faults_in self.new ≡ map aged (faults_in self.old) }
     {
-        for j in 0..self.count {
-            self.lower(j);
+        for fault in self.faults.as_mut_slice() {
+            fault.age();
         }
     }
 
     // Removes the flips that act on those bytes; later faults move up.
-    fn remove_flips(&mut self, bank: usize, index: usize, from: usize, count: usize)
-        ensures removes { faults_in self.new ≡ filter (outlasts bank index from count) (faults_in self.old) }
+    fn remove_flips(&mut self, at: Place, count: usize)
+        ensures removes { faults_in self.new ≡ filter (outlasts at.bank at.index at.byte count) (faults_in self.old) }
     {
-        let used = self.count;
-        let mut next = 0;
-        for j in 0..used {
-            let fault = self.faults[j];
-            if fault.outlasts(bank, index, from, count) {
-                self.faults[next] = fault;
-                next += 1;
-            }
-        }
-        self.count = next;
+        self.faults.retain(|fault| fault.outlasts(at, count));
     }
 }
 
@@ -125,17 +95,11 @@ impl<S: Stack> FaultInjector<S> {
         ensures below { self.new.below ≡ self.old.below }
         ensures stands { Struck result self.old.table fault self.new.table }
     {
-        if is_outside(self.below.size(), fault.bank, fault.index, fault.byte, 1) {
-            return Err(Refusal::PlaceOutOfRange);
-        }
+        fault.place().check(self.below.size(), 1)?;
         if fault.mask == 0 {
             return Err(Refusal::EmptyMask);
         }
-        if self.table.standing().len() >= ROOM {
-            return Err(Refusal::FaultTableFull);
-        }
-        self.table.push(fault);
-        Ok(())
+        self.table.push(fault)
     }
 
     // The faults that stand, in the order in which they were made.
@@ -176,21 +140,15 @@ impl<S: Stack> Stack for FaultInjector<S> {
         self.below.size()
     }
 
-    fn fetch(
-        &self,
-        bank: usize,
-        index: usize,
-        from: usize,
-        into: &mut [u8],
-    ) -> Result<(), Refusal> {
-        self.below.fetch(bank, index, from, into)?;
-        show_all(self.table.standing(), bank, index, from, into);
+    fn fetch(&self, at: Place, into: &mut [u8]) -> Result<(), Refusal> {
+        self.below.fetch(at, into)?;
+        show_all(self.table.standing(), at, into);
         Ok(())
     }
 
-    fn put(&mut self, bank: usize, index: usize, from: usize, bytes: &[u8]) -> Result<(), Refusal> {
-        self.below.put(bank, index, from, bytes)?;
-        self.table.remove_flips(bank, index, from, bytes.len());
+    fn put(&mut self, at: Place, bytes: &[u8]) -> Result<(), Refusal> {
+        self.below.put(at, bytes)?;
+        self.table.remove_flips(at, bytes.len());
         Ok(())
     }
 

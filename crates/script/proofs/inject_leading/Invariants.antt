@@ -6,8 +6,8 @@ use Rattle.script.proofs.inject_leading.Given as goal
 
 abbrev pub invariant-loop-line : goal.invariant-loop-line
 invariant-loop-line l =
-    (l.number + length l.text ≤ 16385)
-    × (vec_items l.initial.out ++ leading_rows 1 (bare_pile_of l.initial.injector) (lines l.input) ≡ vec_items l.out ++ leading_rows l.number (bare_pile_of l.injector) (lines l.text))
+    (l.rows.number + length l.text ≤ 16385)
+    × (vec_items l.initial.rows.bytes ++ leading_rows 1 (bare_pile_of l.initial.injector) (lines l.input) ≡ vec_items l.rows.bytes ++ leading_rows l.rows.number (bare_pile_of l.injector) (lines l.text))
 
 abbrev pub decreases-loop-line : goal.decreases-loop-line
 decreases-loop-line l = length l.text

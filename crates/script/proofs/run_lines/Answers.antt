@@ -1,26 +1,35 @@
-use Rattle.std.proofs.Common.{◌++◌, vec_items, ◌∙◌, arith}
+use Rattle.std.proofs.Common.{◌≡◌, ◌++◌, length, vec_items, sym, ap, ◌∙◌, arith}
+use Rattle.language.proofs.PartLaws.{few_lines}
 use Rattle.language.specs.Parts.{lines}
 use Rattle.script.specs.Machines.{machine_of}
 use Rattle.script.specs.Scripts.{rows}
 use Rattle.script.proofs.ScriptLaws.{rows_end, rows_step}
 use Rattle.script.proofs.run_lines.Goals as goal
 
+pub loop-line-init : goal.loop-line-init
+loop-line-init c =
+    let text = c.args.text.now in
+    let same : c.into_iter-line-iterator.result.0.now ≡ text = ap (λ s. s.0.now) c.into_iter-line-iterator.ensures.into_iter_gives in (
+      rw same (omega (arith, few_lines text, c.requires.counts)),
+      ap (λ t. vec_items c.args.rows.now.bytes ++ rows c.args.rows.now.number (machine_of c.args.board.now) (lines t)) (sym same),
+    )
+
 pub loop-line-preserved : goal.loop-line-preserved
 loop-line-preserved c = (
-  omega (arith, c.in-Some.ensures.leaves_less),
+  omega (arith, ap length c.in-Some.ensures.steps, c.in_ok-push.ensures.counts_on),
   c.loop-line.invariant.1
-      ∙ rows_step (vec_items c.loop-line.out) (vec_items c.push_row.new.out) c.loop-line.number
-      (machine_of c.loop-line.board) (machine_of c.run_line-reply.new.board)
-      (lines c.loop-line.rest.now) c.in-Some.line.now (lines c.in-Some.after.now) c.run_line-reply.result
-      c.in-Some.ensures.parts_the_first_line c.run_line-reply.ensures.replies c.run_line-reply.ensures.moves
-      c.in_ok-push_row.ensures.writes_the_row,
+      ∙ rows_step (vec_items c.loop-line.rows.bytes) (vec_items c.push.new.self.bytes) c.loop-line.rows.number
+      (machine_of c.loop-line.board) (machine_of c.run_line.new.board)
+      (lines c.loop-line.line-iterator.0.now) c.in-Some.line.now (lines c.next.new.self.0.now) c.run_line.result
+      c.in-Some.ensures.steps c.run_line.ensures.replies c.run_line.ensures.moves
+      c.in_ok-push.ensures.writes_the_row
+      ∙ ap (λ n. vec_items c.push.new.self.bytes ++ rows n (machine_of c.run_line.new.board) (lines c.next.new.self.0.now)) (sym c.in_ok-push.ensures.counts_on),
 )
 
 pub returns : goal.returns
-returns c =
-    record {
-      writes_the_rows =
-          rows_end c.loop-line.number (machine_of c.loop-line.board) (vec_items c.loop-line.out)
-          (vec_items c.args.out.now ++ rows c.args.first (machine_of c.args.board.now) (lines c.args.text.now))
-          c.loop-line.rest.now c.in_default.ensures.parts_the_first_line c.loop-line.invariant.1;
-    }
+returns c = record {
+  writes_the_rows =
+      rows_end c.loop-line.rows.number (machine_of c.loop-line.board) (vec_items c.loop-line.rows.bytes)
+      (vec_items c.args.rows.now.bytes ++ rows c.args.rows.now.number (machine_of c.args.board.now) (lines c.args.text.now))
+      (lines c.loop-line.line-iterator.0.now) c.in-None.ensures.steps.0 c.loop-line.invariant.1;
+}

@@ -6,8 +6,5 @@ use Rattle.script.proofs.run_lines.Given as goal
 
 abbrev pub invariant-loop-line : goal.invariant-loop-line
 invariant-loop-line l =
-    (l.number + length l.rest ≤ 16385)
-    × (vec_items l.initial.out ++ rows l.first (machine_of l.initial.board) (lines l.text) ≡ vec_items l.out ++ rows l.number (machine_of l.board) (lines l.rest))
-
-abbrev pub decreases-loop-line : goal.decreases-loop-line
-decreases-loop-line l = length l.rest
+    (l.rows.number + length (lines l.line-iterator.0.now) ≤ 16385)
+    × (vec_items l.initial.rows.bytes ++ rows l.initial.rows.number (machine_of l.initial.board) (lines l.text) ≡ vec_items l.rows.bytes ++ rows l.rows.number (machine_of l.board) (lines l.line-iterator.0.now))

@@ -1,8 +1,9 @@
 // The write buffer's rules.
-use super::{Step, bytes, play, put};
+use super::{Step, bytes, place, play};
 use layers::buffer::WriteBuffer;
 use stack::flat::bytes::ByteMemory;
 use stack::located::first_at;
+use stack::memory::Stack;
 use std::alloc::Global;
 use std::process::Abort;
 use std::test::Fail;
@@ -12,7 +13,7 @@ fn full(rt: &impl Abort, heap: Global) -> Result<WriteBuffer<ByteMemory>, Fail> 
     let mut buffer = WriteBuffer::new(bytes(heap, 3)?);
     for index in 0..2 {
         for bank in 64..72 {
-            put(&mut buffer, (bank, index, 0), &[9; 64])?;
+            buffer.put(place((bank, index, 0)), &[9; 64])?;
         }
     }
     assert!(rt; buffer.buffered().len() == 16);

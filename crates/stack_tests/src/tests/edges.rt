@@ -88,16 +88,9 @@ fn refuses_strikes<S: Stack>(
 
 // A length is taken where it fits a size from 1 to 1,024.
 fn sized(rt: &impl Abort, answer: Result<usize, Refusal>, size: usize) -> Result<(), Fail> {
-    match answer {
-        Ok(got) => {
-            assert!(rt; got == size);
-            Ok(())
-        },
-        Err(why) => {
-            assert!(rt; why.number() == 10 && size == 0);
-            Ok(())
-        },
-    }
+    let expected = if size == 0 { Err(10) } else { Ok(size) };
+    assert_eq!(rt; answer.map_err(|why| why.number()), expected);
+    Ok(())
 }
 
 #[test]

@@ -1,37 +1,35 @@
-use Rattle.std.proofs.Common.{◌≡◌, ℕ, cond, eqb, get_or, sym, ap, ◌∙◌, arith}
+use Rattle.std.proofs.Common.{◌≡◌, ℕ, not, eqb, List, [], ◌∷◌, length, suc, refl, sym, ap, ◌∙◌, inl, inr, rules, tests}
+use Rattle.std.specs.List.{zip, filter}
+use Rattle.std.proofs.lemmas.Bool.{cases_eq, eq-eqb, ne_eqb}
+use Rattle.std.proofs.lemmas.Bool.Decides.{Decides-eqb}
 use Rattle.std.proofs.lemmas.Slice.Eq.{slice_eq-Decides}
-use Rattle.std.proofs.lemmas.Bool.{eq-eqb, ne_eqb}
+use Rattle.std.proofs.lemmas.Iterator.{YieldsList-from_slice, YieldsList-from_zip}
+use Rattle.std.proofs.lemmas.Iterator.Consumers.{YieldsList-at, YieldsList-from_filter, count_from_yields_List}
 use Rattle.codec.specs.Word.{distance}
 use Rattle.codec.proofs.DecodingLaws.{distance_none}
-use Rattle.rules.proofs.Rows.{distance_more, distance_end}
 use Rattle.board.proofs.lines.differing.Goals as goal
-use Rattle.board.proofs.lines.differing.Goals.{then-a-i, else-a-i}
-use Rattle.std.proofs.lemmas.Bool.Decides.{Decides-eqb}
 
-pub loop-i-preserved : goal.loop-i-preserved
-loop-i-preserved c =
-    let xs = c.args.a.now in
-    let ys = c.args.b.now in
-    let i = c.loop-i.i in
-    let n = c.loop-i.n in
-    let more = distance_more xs ys i (omega (arith, c.told-a)) (omega (arith, c.told-b)) in
-    let old = c.loop-i.invariant.0 in
-    elim c.if-a-i.branch [
-      | then-a-i w ↦
-          let t : ◌≡◌ {A = ℕ} (cond (eqb (get_or xs i 0) (get_or ys i 0)) 0 1) 1 = ap (λ z. cond z 0 1) (ne_eqb (get_or xs i 0) (get_or ys i 0) w.if-a-i.true) in
-          (omega (arith, w.n-is), omega (arith, w.n-is))
-      | else-a-i w ↦
-          let t : ◌≡◌ {A = ℕ} (cond (eqb (get_or xs i 0) (get_or ys i 0)) 0 1) 0 = ap (λ z. cond z 0 1) (eq-eqb (get_or xs i 0) (get_or ys i 0) w.if-a-i.false) in
-          (omega (arith, w.n-is), omega (arith, w.n-is))
+-- the pairs that differ, counted
+distance_pairs : (xs ys : List ℕ) → length (filter (λ p. not (eqb p.0 p.1)) (zip xs ys)) ≡ distance xs ys
+unfolding distance
+distance_pairs [] ys = refl
+distance_pairs (x ∷ xs) [] = refl
+distance_pairs (x ∷ xs) (y ∷ ys) =
+    elim (cases_eq x y) [
+      | inl e ↦ rw (eq-eqb x y e) (distance_pairs xs ys)
+      | inr n ↦ rw (ne_eqb x y n) (ap (λ k. suc k) (distance_pairs xs ys))
     ]
 
-pub returns : goal.returns
-returns c =
-    let e = distance_end c.args.a.now c.args.b.now c.loop-i.i (omega (arith, c.told-a)) (omega (arith, c.told-b)) in
-    record { counts = omega (arith, c.loop-i.invariant.0); at_most_64 = omega arith }
+pub returns-clause-counts : goal.returns-clause-counts
+returns-clause-counts c =
+    count_from_yields_List c.filter.result c.count.result c.count.ensures.ran
+    (YieldsList-from_filter _ (λ p. not (eqb p.0 p.1))
+    (YieldsList-at c.filter.ensures.source (YieldsList-from_zip (YieldsList-from_slice c.args.a.now cc) (YieldsList-from_slice c.args.b.now cc)))
+    c.filter.ensures.closure (λ x r q k. search (rules, tests)))
+    ∙ distance_pairs c.args.a.now c.args.b.now
 
-pub returns-then-eq : goal.returns-then-eq
-returns-then-eq c =
+pub returns-then-eq-clause-counts : goal.returns-then-eq-clause-counts
+returns-then-eq-clause-counts c =
     let same = slice_eq-Decides Decides-eqb c.args.a.now c.args.b.now c.eq.result c.eq.ensures in
     let xs = c.args.a.now in
-    record { counts = sym (ap (distance xs) (sym (same.0 c.if-eq.true)) ∙ distance_none xs); at_most_64 = omega arith }
+    sym (ap (distance xs) (sym (same.0 c.if-eq.true)) ∙ distance_none xs)

@@ -32,7 +32,7 @@ pub returns : goal.returns
 returns c =
     let x : ℕ = c.packed_check.result in
     let h : Symbols 64 c.args.line.now = record { count = c.told-line; small = c.fits-line } in
-    let e = low x c.to_le_bytes-c.result (unfold lane in c.to_le_bytes-c.ensures) ∙ c.packed_check.ensures.has_the_check_in_its_bytes in
+    let e = low x c.to_le_bytes.result (unfold lane in c.to_le_bytes.ensures) ∙ c.packed_check.ensures.has_the_check_in_its_bytes in
     record {
       is_the_check = e;
       makes_a_full_codeword = full c.args.line.now _ h e;

@@ -1,45 +1,18 @@
-use Rattle.std.proofs.Common.{◌≡◌, ℕ, true, false, List, ◌++◌, length, Some, None, sym, ap, ◌∙◌, rules}
+use Rattle.std.proofs.Common.{◌∙◌}
 use Rattle.codec.specs.declared.word.Finding.TheVariants.{Rebuilt, RebuiltCorrected}
-use Rattle.codec.specs.Code.{found, codeword}
-use Rattle.codec.specs.Shown.{symbols, check_of}
-use Rattle.codec.proofs.CodeLaws.{line_before}
-use Rattle.codec.proofs.TestLaws.{judging_whole, judging_by, told_err, kept_err}
+use Rattle.codec.specs.Code.{judging, codeword}
+use Rattle.codec.specs.Shown.{symbols}
+use Rattle.codec.proofs.TestLaws.{restored, not_restored, told_err}
 use Rattle.codec.proofs.code.judge.Goals as goal
 
-pub returns-then-is_codeword : goal.returns-then-is_codeword
-returns-then-is_codeword c =
-    let line : List ℕ = c.args.word.now.line in
-    let n : length line ≡ 64 = search rules in
-    let t : true ≡ codeword (symbols c.args.word.now) =
-    c.if-is_codeword.ensures.is_the_test ∙ ap (λ xs. codeword (line ++ xs)) c.symbols.ensures.are_those_held in
-    record {
-      is_the_judgement =
-          sym (judging_whole (symbols c.args.word.now) (sym t) ∙ ap (λ x. found x Rebuilt) (line_before line (check_of c.args.word.now.check) n));
-      an_uncorrectable_word_leaves_the_line = tt;
-    }
+pub returns-in_err-pair-clause-is_the_judgement : goal.returns-in_err-pair-clause-is_the_judgement
+unfolding judging
+returns-in_err-pair-clause-is_the_judgement c =
+    told_err c.from_residual.result c.restore.new.line c.from_residual.ensures.0
+    ∙ not_restored (symbols c.args.word.now) Rebuilt RebuiltCorrected (codeword (symbols c.args.word.now)) _ c.args.line.now c.restore.new.line (c.in_err-pair.ensures.by_all_corrects_all_but_codewords c.symbols.ensures.are_six_or_in_short_five)
 
-pub returns-in_err-pair : goal.returns-in_err-pair
-returns-in_err-pair c =
-    let line : List ℕ = c.args.word.now.line in
-    let p = c.in_err-pair.ensures.applies_the_pair in
-    let t : false ≡ codeword (symbols c.args.word.now) =
-    c.if-is_codeword.ensures.is_the_test ∙ ap (λ xs. codeword (line ++ xs)) c.symbols.ensures.are_those_held in
-    record {
-      is_the_judgement =
-          told_err c.from_residual.result c.correct.new.line c.from_residual.ensures.0
-          ∙ sym (judging_by (symbols c.args.word.now) None (sym t) p.0);
-      an_uncorrectable_word_leaves_the_line = kept_err c.from_residual.result c.args.line.now c.correct.new.line p.1;
-    }
-
-pub returns : goal.returns
-returns c =
-    let line : List ℕ = c.args.word.now.line in
-    let p = c.in_ok-pair.ensures.applies_the_pair in
-    let t : false ≡ codeword (symbols c.args.word.now) =
-    c.if-is_codeword.ensures.is_the_test ∙ ap (λ xs. codeword (line ++ xs)) c.symbols.ensures.are_those_held in
-    record {
-      is_the_judgement =
-          ap (λ x. found x (RebuiltCorrected c.in_ok-pair.pair)) p.1
-          ∙ sym (judging_by (symbols c.args.word.now) (Some c.in_ok-pair.pair) (sym t) p.0);
-      an_uncorrectable_word_leaves_the_line = tt;
-    }
+pub returns-clause-is_the_judgement : goal.returns-clause-is_the_judgement
+unfolding judging
+returns-clause-is_the_judgement c =
+    restored (symbols c.args.word.now) Rebuilt RebuiltCorrected (codeword (symbols c.args.word.now)) c.in_ok-pair.pair c.map_or.result c.args.line.now c.restore.new.line
+    (c.in_ok-pair.ensures.by_all_corrects_all_but_codewords c.symbols.ensures.are_six_or_in_short_five) c.map_or.ensures

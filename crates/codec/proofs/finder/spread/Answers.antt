@@ -1,9 +1,9 @@
-use Rattle.std.proofs.Common.{◌≡◌, ℕ, ◌+◌, ◌-◌, ◌≤◌, Bool, true, false, List, ◌++◌, length, take, ap, ◌∙◌, ap₂, arith, lit≤, length-append, rules}
+use Rattle.std.proofs.Common.{◌≡◌, ℕ, ◌+◌, ◌-◌, ◌≤◌, Bool, List, ◌++◌, length, take, ap, ◌∙◌, ap₂, arith, length-append, rules}
 use borrow.Rule.Slice.PartMut.{put_mid}
 use Rattle.std.proofs.lemmas.Slice.{take-put_mid}
-use Rattle.codec.specs.Code.{checks}
 use Rattle.codec.specs.Shown.{is_short}
 use Rattle.codec.proofs.CodeLaws.{line_before}
+use Rattle.codec.proofs.TestLaws.{five, six}
 use Rattle.codec.proofs.finder.spread.Goals as goal
 
 -- a line written over the first 64 bytes, and n bytes over those behind it
@@ -13,14 +13,6 @@ joined n line rest check l m =
     let d : (64 + n) - 64 ≡ n = omega arith in
     ap (λ i. take (64 + n) (put_mid 64 i (line ++ rest) check)) d
     ∙ take-put_mid 64 n (line ++ rest) check (64 + n) (omega arith) k ∙ ap (λ x. x ++ check) (line_before line rest l)
-
-five : (short : Bool) → 5 ≤ checks short
-five true = lit≤ tt
-five false = lit≤ tt
-
-six : (short : Bool) → checks short ≤ 6
-six true = lit≤ tt
-six false = lit≤ tt
 
 pub returns : goal.returns
 returns c =

@@ -3,4 +3,4 @@ use Rattle.codeword.specs.Input.{byte_at}
 use Rattle.codeword.proofs.input.read_line.Given as goal
 
 abbrev pub invariant-loop-k : goal.invariant-loop-k
-invariant-loop-k l = (length l.line ≡ 64) × ((j : ℕ) → j < l.k → byte_at l.text j ≡ Some (get_or l.line j 0))
+invariant-loop-k l = record { long : length l.line ≡ 64; read : (j : ℕ) → j < l.k → byte_at l.text j ≡ Some (get_or l.line j 0) }

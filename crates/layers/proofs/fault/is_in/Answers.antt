@@ -2,10 +2,10 @@ use Rattle.std.proofs.Common.{rules}
 use Rattle.stack.specs.Memory.{spans}
 use Rattle.layers.proofs.fault.is_in.Goals as goal
 
-pub returns-then-k-from : goal.returns-then-k-from
+pub returns-then-place-at : goal.returns-then-place-at
 unfolding spans
-returns-then-k-from c = search rules
+returns-then-place-at c = search rules
 
-pub returns-else-k-from : goal.returns-else-k-from
+pub returns-else-place-at : goal.returns-else-place-at
 unfolding spans
-returns-else-k-from c = search rules
+returns-else-place-at c = search rules

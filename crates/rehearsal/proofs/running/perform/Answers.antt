@@ -1,9 +1,9 @@
-use Rattle.std.proofs.Common.{sym, ap, subst}
+use Rattle.std.proofs.Common.{Ok, sym, ap, subst, rules}
 use Rattle.stack.specs.Pieces.{InOrder, done}
 use Rattle.rules.specs.History.{Step}
 use Rattle.rules.specs.Boards.{board}
-use Rattle.rules.specs.declared.calls.Answer.TheVariants.{Done, Written, Renewed, Cleared, Refused}
-use Rattle.rules.specs.declared.calls.Call.TheVariants.{Clear, Scrub, Mark, Settle, Pass}
+use Rattle.rules.specs.declared.calls.Outcome.TheVariants.{Done}
+use Rattle.rules.specs.declared.calls.Call.TheVariants.{Write, Renew, Clear, Scrub, Mark, Settle, Pass}
 use Rattle.rules.proofs.Chain.{pass_step, read_step, settle_step, shown_small}
 use Rattle.board.specs.Marks.{listed}
 use Rattle.board.specs.State.{state}
@@ -24,53 +24,29 @@ returns-in-Read g c =
       };
     })
 
-pub returns-in-Ok : goal.returns-in-Ok
-returns-in-Ok g c =
+pub returns-in-Write : goal.returns-in-Write
+returns-in-Write g c =
     let b = c.args.board.now in
     let t = c.write.new.self in
-    let did = c.in-Ok.ensures in
+    let did = c.write.ensures in
     rw c.in-Write.is
-    (record { does_the_call = record { step = stepped g.S.Stack b t _ (Written c.in-Ok.finding) did.takes_bytes did.answers_as_ruled did.puts_as_ruled did.marks_as_ruled; exactly = did.puts_as_ruled } })
+    (record { does_the_call = record { step = stepped g.S.Stack b t (Write c.in-Write.address c.in-Write.line.now) c.map.result did.takes_bytes (search rules) did.puts_as_ruled did.marks_as_ruled; exactly = did.puts_as_ruled } })
 
-pub returns-in-Err : goal.returns-in-Err
-returns-in-Err g c =
-    let b = c.args.board.now in
-    let t = c.write.new.self in
-    let did = c.in-Err.ensures in
-    rw c.in-Write.is
-    (record { does_the_call = record { step = stepped g.S.Stack b t _ (Refused c.in-Err.refusal) did.takes_bytes did.answers_as_ruled did.puts_as_ruled did.marks_as_ruled; exactly = did.puts_as_ruled } })
-
-pub returns-in-Ok-renew : goal.returns-in-Ok-renew
-returns-in-Ok-renew g c =
+pub returns-in-Renew : goal.returns-in-Renew
+returns-in-Renew g c =
     let b = c.args.board.now in
     let t = c.renew.new.self in
-    let did = c.in-Ok-renew.ensures in
+    let did = c.renew.ensures in
     rw c.in-Renew.is
-    (record { does_the_call = record { step = stepped g.S.Stack b t _ Renewed did.takes_bytes did.answers_as_ruled did.puts_as_ruled did.marks_as_ruled; exactly = did.puts_as_ruled } })
+    (record { does_the_call = record { step = stepped g.S.Stack b t (Renew c.in-Renew.address c.in-Renew.line.now) c.map-in-Renew.result did.takes_bytes (search rules) did.puts_as_ruled did.marks_as_ruled; exactly = did.puts_as_ruled } })
 
-pub returns-in-Err-renew : goal.returns-in-Err-renew
-returns-in-Err-renew g c =
-    let b = c.args.board.now in
-    let t = c.renew.new.self in
-    let did = c.in-Err-renew.ensures in
-    rw c.in-Renew.is
-    (record { does_the_call = record { step = stepped g.S.Stack b t _ (Refused c.in-Err-renew.refusal) did.takes_bytes did.answers_as_ruled did.puts_as_ruled did.marks_as_ruled; exactly = did.puts_as_ruled } })
-
-pub returns-in-Ok-clear : goal.returns-in-Ok-clear
-returns-in-Ok-clear g c =
+pub returns-in-Clear : goal.returns-in-Clear
+returns-in-Clear g c =
     let b = c.args.board.now in
     let t = c.clear.new.self in
-    let did = c.in-Ok-clear.ensures in
+    let did = c.clear.ensures in
     rw c.in-Clear.is
-    (record { does_the_call = record { step = stepped g.S.Stack b t (Clear c.in-Clear.address) Cleared tt did.answers_as_ruled did.puts_as_ruled did.marks_as_ruled; exactly = did.puts_as_ruled } })
-
-pub returns-in-Err-clear : goal.returns-in-Err-clear
-returns-in-Err-clear g c =
-    let b = c.args.board.now in
-    let t = c.clear.new.self in
-    let did = c.in-Err-clear.ensures in
-    rw c.in-Clear.is
-    (record { does_the_call = record { step = stepped g.S.Stack b t (Clear c.in-Clear.address) (Refused c.in-Err-clear.refusal) tt did.answers_as_ruled did.puts_as_ruled did.marks_as_ruled; exactly = did.puts_as_ruled } })
+    (record { does_the_call = record { step = stepped g.S.Stack b t (Clear c.in-Clear.address) c.map-in-Clear.result tt (search rules) did.puts_as_ruled did.marks_as_ruled; exactly = did.puts_as_ruled } })
 
 pub returns-in-Scrub : goal.returns-in-Scrub
 returns-in-Scrub g c =
@@ -96,7 +72,7 @@ returns-in-Settle g c =
     rw c.in-Settle.is
     (record {
       does_the_call = record {
-        step = subst (λ ms. Step (state g.S.Stack b) Settle Done (board (g.S.Stack.means t.stack) ms)) (ap listed (sym did.leaves_the_marks))
+        step = subst (λ ms. Step (state g.S.Stack b) Settle (Ok Done) (board (g.S.Stack.means t.stack) ms)) (ap listed (sym did.leaves_the_marks))
             (settle_step (g.S.Stack.means b.stack) (g.S.Stack.means t.stack) (listed b.marks) did.keeps_every_byte (shown_small g.S.Stack t.stack));
         exactly = did.settles_the_stack;
       };
@@ -110,7 +86,7 @@ returns-in-Pass g c =
     rw c.in-Pass.is
     (record {
       does_the_call = record {
-        step = subst (λ ms. Step (state g.S.Stack b) Pass Done (board (g.S.Stack.means t.stack) ms)) (ap listed (sym did.leaves_the_marks))
+        step = subst (λ ms. Step (state g.S.Stack b) Pass (Ok Done) (board (g.S.Stack.means t.stack) ms)) (ap listed (sym did.leaves_the_marks))
             (pass_step (g.S.Stack.means b.stack) (g.S.Stack.means t.stack) (listed b.marks) did.keeps_every_byte (shown_small g.S.Stack t.stack));
         exactly = did.passes_on_the_stack;
       };

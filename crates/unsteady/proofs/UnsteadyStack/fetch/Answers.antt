@@ -2,7 +2,7 @@ use Rattle.std.proofs.Common.{◌≡◌, ℕ, false, cond, eqb, List, length, ve
 use Rattle.stack.specs.Memory.{outside}
 use Rattle.stack.specs.Refusals.{judged}
 use Rattle.stack.specs.Flat.{flat_means}
-use Rattle.stack.proofs.PieceLaws.{answered}
+use Rattle.stack.proofs.PieceLaws.{accepted, answered}
 use Rattle.unsteady.specs.Noise.{noisy}
 use Rattle.unsteady.proofs.NoiseLaws.{both, noisy_cells}
 use Rattle.unsteady.proofs.UnsteadyStack.fetch.Goals as goal
@@ -13,9 +13,9 @@ returns c =
     let x = flat_means (vec_items s.kept.bytes) in
     let y = flat_means (vec_items s.shown.bytes) in
     let n = length c.args.into.now in
-    let in' : outside (cond (eqb x.size y.size) x.size 0) c.args.bank c.args.index c.args.from n ≡ false =
-    ap (λ (q : ℕ). outside q c.args.bank c.args.index c.args.from n) (sym c.size.ensures.is_size) ∙ sym c.if-is_outside.ensures.is_outside in
-    let two = both x.size y.size c.args.bank c.args.index c.args.from n in' in
+    let in' : outside (cond (eqb x.size y.size) x.size 0) c.args.at.bank c.args.at.index c.args.at.byte n ≡ false =
+    ap (λ (q : ℕ). outside q c.args.at.bank c.args.at.index c.args.at.byte n) (sym c.size.ensures.is_size) ∙ accepted _ (sym c.in_ok-check.ensures.refuses_what_lies_outside) in
+    let two = both x.size y.size c.args.at.bank c.args.at.index c.args.at.byte n in' in
     let got = (answered _ c.fetch.result c.fetch.ensures.refuses c.fetch.ensures.copies).0 two.in_shown in
     let shown : c.disturb.new.into ≡ noisy s.noise c.fetch.new.into = search rules in
     record {
@@ -23,5 +23,5 @@ returns c =
       copies =
           shown
           ∙ ap (λ (zs : List ℕ). noisy s.noise zs) got
-          ∙ noisy_cells s.noise y.shown c.args.bank c.args.index c.args.from n;
+          ∙ noisy_cells s.noise y.shown c.args.at.bank c.args.at.index c.args.at.byte n;
     }

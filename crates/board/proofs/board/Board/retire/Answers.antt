@@ -1,7 +1,7 @@
-use Rattle.std.proofs.Common.{◌≡◌, Some, ap, ◌∙◌}
+use Rattle.std.proofs.Common.{◌≡◌, Some, ap, ◌∙◌, Ok}
 use Rattle.std.proofs.lemmas.Result.{err_from_is_err_and}
 use Rattle.rules.specs.Rules.{spare_of}
-use Rattle.rules.specs.declared.calls.Answer.TheVariants.{Marked}
+use Rattle.rules.specs.declared.calls.Outcome.TheVariants.{Marked}
 use Rattle.rules.specs.declared.calls.Call.TheVariants.{Mark}
 use Rattle.rules.proofs.Calling.{call_refused}
 use Rattle.rules.proofs.Retiring.{mark_open, mark_answer, mark_done}
@@ -38,5 +38,5 @@ returns g c =
       retires = λ n h.
           let p = mark_done g.S.Stack x y ms nx b n
           (mark_open m ms b n c.requires.real_bank c.requires.allowed h) c.in_ok-survey.ensures.surveys c.requires.next did.run in
-          record { answers = ap Marked e ∙ p.0.says; puts = p.1; marks = p.0.marks };
+          record { answers = ap (λ n. Ok (Marked n)) e ∙ p.0.says; puts = p.1; marks = p.0.marks };
     }

@@ -28,7 +28,6 @@ retire_index-requires g c =
     let h : i < (g.S.Stack.means x).size = omega (arith, c.size-index-end.ensures.is_size) in
     record {
       in_range = omega arith;
-      room = c.loop-index.auto.work ∙ c.requires.room;
       next = c.requires.next ∙ ap (λ m. listed m ++ b ∷ []) (sym same);
       obtainable = ap (λ m. first_denied (for_mark (board (g.S.Stack.means y) (listed m)) b) (addresses i (range_with_len 0 64))) same
           ∙ retire_none g.S.Stack ms b x y i h run c.requires.obtainable;

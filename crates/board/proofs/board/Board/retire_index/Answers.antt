@@ -1,5 +1,5 @@
 use Rattle.std.proofs.Common.{◌≡◌, ℕ, ◌<◌, List, [], ◌∷◌, ◌++◌, refl, ◌∙◌, ap₂, arith}
-use Rattle.std.specs.List.{range_with_len}
+use Rattle.std.specs.List.{concat, range_with_len}
 use Rattle.stack.specs.Pieces.{Accepted}
 use Rattle.rules.specs.Rules.{Outcome, for_mark, line_of, row, first_denied, addresses}
 use Rattle.rules.specs.Work.{Loaded}
@@ -19,7 +19,7 @@ returns g c =
     let nx = listed c.args.next.now in
     let b = c.args.bank in
     let i = c.args.index in
-    let w = c.load.new.work in
+    let w = concat c.load.new.work in
     let got : ℕ → Outcome = for_mark (state g.S.Stack c.args.self.now) b in
     let f : ℕ → List ℕ = row (ms ++ b ∷ []) (λ a. line_of (got a)) i in
     let load : Loaded got i 0 64 w =

@@ -1,4 +1,5 @@
 use Rattle.std.proofs.Common.{◌≡◌, [], None, Option, refl, ap, ◌∙◌, subst, arith}
+use Rattle.std.specs.List.{concat}
 use Rattle.stack.specs.Pieces.{done}
 use Rattle.rules.specs.Rules.{Part, part, when, piece_at, otherwise_part, row}
 use Rattle.rules.specs.Work.{slots}
@@ -9,8 +10,8 @@ use Rattle.board.proofs.board.Board.scrub_bank.Goals as goal
 pub returns-then-not-holds : goal.returns-then-not-holds
 returns-then-not-holds g c =
     let x = c.args.self.now in
-    let r = row (listed x.marks) (slots c.args.work.now) c.args.index c.args.bank in
-    let e : None ≡ scrubbed_part x c.args.b c.args.index c.args.work.now c.args.bank =
+    let r = row (listed x.marks) (slots (concat c.args.work.now)) c.args.index c.args.bank in
+    let e : None ≡ scrubbed_part x c.args.b c.args.index (concat c.args.work.now) c.args.bank =
     ap (λ t. when t (part 0 r)) c.if-not-holds.ensures.tells_whether_it_holds in
     record {
       puts_anew = subst (λ (o : Option Part). Ran g.S.Stack x (piece_at o c.args.index c.args.bank []) x) e (record { run = done; marks = refl });
@@ -22,8 +23,8 @@ pub returns : goal.returns
 returns g c =
     let x = c.args.self.now in
     let y = c.put_row.new.self in
-    let r = row (listed x.marks) (slots c.args.work.now) c.args.index c.args.bank in
-    let e : part 0 c.build_row-row.result ≡ scrubbed_part x c.args.b c.args.index c.args.work.now c.args.bank =
+    let r = row (listed x.marks) (slots (concat c.args.work.now)) c.args.index c.args.bank in
+    let e : part 0 c.build_row-row.result ≡ scrubbed_part x c.args.b c.args.index (concat c.args.work.now) c.args.bank =
     ap (part 0) (c.build_row-row.ensures.is_the_row c.args.index) ∙ ap (λ t. when t (part 0 r)) c.if-not-holds.ensures.tells_whether_it_holds in
     record {
       puts_anew = subst (λ (o : Option Part). Ran g.S.Stack x (piece_at o c.args.index c.args.bank []) y) e c.put_row.ensures.puts_it;

@@ -1,4 +1,5 @@
 use Rattle.std.proofs.Common.{◌≡◌, ℕ, ◌+◌, List, [], Option, sym, refl, ap, ◌∙◌, subst, ap₂, arith}
+use Rattle.std.specs.List.{concat}
 use Rattle.stack.specs.Pieces.{Accepted, InOrder}
 use Rattle.stack.proofs.RunLaws.{run_size}
 use Rattle.rules.specs.Rules.{Part, piece_at, otherwise_part}
@@ -16,7 +17,7 @@ loop-bank-init g c =
 pub scrub_bank-count-requires : goal.scrub_bank-count-requires
 scrub_bank-count-requires g c =
     let room = run_size c.loop-bank.invariant.0.run in
-    record { real_bank = c.loop-bank-test.true; in_range = omega (arith, c.requires.in_range); room = c.requires.room }
+    record { real_bank = c.loop-bank-test.true; in_range = omega (arith, c.requires.in_range) }
 
 pub loop-bank-preserved : goal.loop-bank-preserved
 loop-bank-preserved g c =
@@ -25,7 +26,7 @@ loop-bank-preserved g c =
     let z = c.scrub_bank-count.new.self.stack in
     let i = c.args.index in
     let n = c.loop-bank.bank in
-    let p : List ℕ → ℕ → Option Part = λ ms. scrubbing ms c.args.b (slots c.args.work.now) i in
+    let p : List ℕ → ℕ → Option Part = λ ms. scrubbing ms c.args.b (slots (concat c.args.work.now)) i in
     let ms = listed c.args.self.now.marks in
     let run = c.loop-bank.invariant.0.run in
     let same = c.loop-bank.invariant.0.marks in
@@ -33,7 +34,7 @@ loop-bank-preserved g c =
     let sy = (g.S.Stack.means y).shown in
     let one : c.scrub_bank-count.result ≡ otherwise_part sx i n (p ms n) =
     c.scrub_bank-count.ensures.counts ∙ ap (λ m. otherwise_part sy i n (p (listed m) n)) same
-    ∙ scrub_count g.S.Stack x y ms c.args.b (slots c.args.work.now) i n c.requires.in_range c.loop-bank-test.true run in
+    ∙ scrub_count g.S.Stack x y ms c.args.b (slots (concat c.args.work.now)) i n c.requires.in_range c.loop-bank-test.true run in
     let low = c.scrub_bank-count.ensures.at_most_64 in
     let was = c.loop-bank.invariant.2 in (
       record {

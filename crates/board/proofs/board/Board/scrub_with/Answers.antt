@@ -1,5 +1,5 @@
-use Rattle.std.proofs.Common.{◌≡◌, ◌/◌, ◌%◌, Some, sym, ap, ◌∙◌, subst, ap₂, arith}
-use Rattle.std.specs.List.{range_with_len}
+use Rattle.std.proofs.Common.{◌≡◌, ◌-◌, ◌/◌, ◌%◌, Some, sym, ap, ◌∙◌, subst, ap₂, arith}
+use Rattle.std.specs.List.{concat, range_with_len}
 use Rattle.std.proofs.lemmas.Result.{err_from_is_err_and}
 use Rattle.rules.specs.Places.{group_start, group_count}
 use Rattle.rules.specs.Rules.{reading, first_denied, addresses}
@@ -17,9 +17,8 @@ pub load-requires : goal.load-requires
 load-requires g c =
     let ms = listed c.args.self.now.marks in
     let room = group_room ms (c.args.address % 64) (omega arith) in
-    let lo = c.group-lo.ensures.starts in
-    let count = c.group-lo.ensures.counts in
-    record { in_range = c.requires.in_range; real_banks = omega arith; room = c.requires.room }
+    let ends = c.group-banks.ensures.ends in
+    record { in_range = c.requires.in_range; real_banks = omega (arith, room, ends); room = omega (arith, room, ends, c.told-work) }
 
 pub returns-in_err-load : goal.returns-in_err-load
 returns-in_err-load g c =
@@ -29,8 +28,10 @@ returns-in_err-load g c =
     let a = c.args.address in
     let e = c.in_err-load.field-0.0 in
     let p = err_from_is_err_and c.from_residual.result c.from_residual.ensures.1 in
+    let starts = c.group-banks.ensures.starts in
+    let counts : c.group-banks.result.end - c.group-banks.result.start ≡ group_count ms = omega (arith, starts, c.group-banks.ensures.ends) in
     let refuses : first_denied (reading s) (addresses (a / 64) (range_with_len (group_start ms (a % 64)) (group_count ms))) ≡ Some e =
-    ap₂ (λ lo n. first_denied (reading s) (addresses (a / 64) (range_with_len lo n))) (sym c.group-lo.ensures.starts) (sym c.group-lo.ensures.counts) ∙ c.in_err-load.ensures.loads_or_refuses in
+    ap₂ (λ lo n. first_denied (reading s) (addresses (a / 64) (range_with_len lo n))) (sym starts) (sym counts) ∙ c.in_err-load.ensures.loads_or_refuses in
     rw (p.1, p.2)
     (record {
       scrubs = λ n h.
@@ -44,10 +45,12 @@ returns g c =
     let ms = listed c.args.self.now.marks in
     let s = state g.S.Stack c.args.self.now in
     let a = c.args.address in
-    let w = c.load.new.work in
+    let w = concat c.load.new.work in
+    let starts = c.group-banks.ensures.starts in
+    let counts : c.group-banks.result.end - c.group-banks.result.start ≡ group_count ms = omega (arith, starts, c.group-banks.ensures.ends) in
     let load : Loaded (reading s) (a / 64) (group_start ms (a % 64)) (group_count ms) w =
-    subst (λ l. Loaded (reading s) (a / 64) l (group_count ms) w) c.group-lo.ensures.starts
-    (subst (λ n. Loaded (reading s) (a / 64) c.group-lo.result.0 n w) c.group-lo.ensures.counts c.in_ok-load.ensures.loads_or_refuses) in
+    subst (λ l. Loaded (reading s) (a / 64) l (group_count ms) w) starts
+    (subst (λ n. Loaded (reading s) (a / 64) c.group-banks.result.start n w) counts c.in_ok-load.ensures.loads_or_refuses) in
     let did = c.scrub_group.ensures.puts_anew in
     record {
       scrubs = λ n h.

@@ -1,4 +1,4 @@
-use Rattle.std.proofs.Common.{◌≡◌, ℕ, ◌+◌, ◌/◌, ◌%◌, List, [], Option, refl, ◌∙◌, subst, arith}
+use Rattle.std.proofs.Common.{◌≡◌, ℕ, ◌+◌, ◌-◌, ◌/◌, ◌%◌, List, [], Option, refl, ◌∙◌, subst, arith}
 use Rattle.std.specs.List.{range_with_len}
 use Rattle.stack.specs.Pieces.{Accepted, InOrder}
 use Rattle.stack.proofs.RunLaws.{run_size}
@@ -18,28 +18,36 @@ store_bank-requires-2 g c =
     let room = run_size c.store_bank.ensures.stores.run in
     record { in_range = omega arith; real_bank = omega arith; its_check = c.check_of-check.ensures.is_the_check }
 
-pub store_bank-requires-in-loop-n : goal.store_bank-requires-in-loop-n
-store_bank-requires-in-loop-n g c =
+pub store_bank-requires-in-loop-bank : goal.store_bank-requires-in-loop-bank
+store_bank-requires-in-loop-bank g c =
     let one = run_size c.store_bank.ensures.stores.run in
     let two = run_size c.store_bank-2.ensures.stores.run in
-    let room = run_size c.loop-n.invariant.run in
+    let room = run_size c.loop-bank.invariant.run in
     record { in_range = omega arith; real_bank = omega arith; its_check = c.check_of-check.ensures.is_the_check }
 
-pub loop-n-init : goal.loop-n-init
-loop-n-init g c = record { run = from_none (Accepted g.S.Stack.means g.S.Stack.puts) _ _ 68 _; marks = refl }
+pub loop-bank-init : goal.loop-bank-init
+loop-bank-init g c = record { run = from_none (Accepted g.S.Stack.means g.S.Stack.puts) _ _ 68 _; marks = refl }
 
-pub loop-n-preserved : goal.loop-n-preserved
-loop-n-preserved g c =
+pub loop-bank-preserved : goal.loop-bank-preserved
+loop-bank-preserved g c =
     let a = c.args.address in
-    let n = c.loop-n.n in
+    let bank = c.loop-bank.bank in
+    let n : ℕ = bank - 68 in
+    let here : bank ≡ 68 + n = omega (arith, c.loop-bank.auto.bank) in
+    let next : n + 1 ≡ bank + 1 - 68 = omega (arith, c.loop-bank.auto.bank) in
     let means = g.S.Stack.means in
     let puts = g.S.Stack.puts in
+    let x = c.store_bank-2.new.self in
+    let y = c.loop-bank.self in
+    let z = c.store_bank-in-loop-bank.new.self in
     let p : List ℕ → ℕ → Option Part = λ ms. storing ms (a % 64) c.args.line.now c.args.parity.now in
+    let one : InOrder means puts y.stack (piece_at (p (listed x.marks) bank) (a / 64) bank []) z.stack =
+    subst (λ m. InOrder means puts y.stack (piece_at (p (listed m) bank) (a / 64) bank []) z.stack) c.loop-bank.invariant.marks c.store_bank-in-loop-bank.ensures.stores.run in
     record {
-      run = from_more (Accepted means puts) (p (listed c.store_bank-2.new.self.marks)) (a / 64) 68 n _ _ _ c.loop-n.invariant.run
-          (subst (λ m. InOrder means puts c.loop-n.self.stack (piece_at (p (listed m) (68 + n)) (a / 64) (68 + n) []) c.store_bank-in-loop-n.new.self.stack)
-          c.loop-n.invariant.marks c.store_bank-in-loop-n.ensures.stores.run);
-      marks = c.store_bank-in-loop-n.ensures.stores.marks ∙ c.loop-n.invariant.marks;
+      run = subst (λ m. InOrder means puts x.stack (along_banks (p (listed x.marks)) (a / 64) (range_with_len 68 m)) z.stack) next
+          (from_more (Accepted means puts) (p (listed x.marks)) (a / 64) 68 n x.stack y.stack z.stack c.loop-bank.invariant.run
+          (subst (λ b. InOrder means puts y.stack (piece_at (p (listed x.marks) b) (a / 64) b []) z.stack) here one));
+      marks = c.store_bank-in-loop-bank.ensures.stores.marks ∙ c.loop-bank.invariant.marks;
     }
 
 pub returns : goal.returns
@@ -64,10 +72,10 @@ returns g c =
     let second_marks : z.marks ≡ x.marks = c.store_bank-2.ensures.stores.marks ∙ first_Marks in
     let second : InOrder means puts y.stack (piece_at (p q) i q []) z.stack =
     subst (λ m. InOrder means puts y.stack (piece_at (plan (listed m) q) i q []) z.stack) first_Marks c.store_bank-2.ensures.stores.run in
-    let all : c.loop-n.n ≡ 4 = omega arith in
-    let rest : InOrder means puts z.stack (along_banks p i (range_with_len 68 4)) c.loop-n.self.stack =
-    subst (λ m. InOrder means puts z.stack (along_banks (plan (listed m)) i (range_with_len 68 4)) c.loop-n.self.stack) second_marks
-    (subst (λ n. InOrder means puts z.stack (along_banks (plan (listed z.marks)) i (range_with_len 68 n)) c.loop-n.self.stack) all c.loop-n.invariant.run) in
+    let all : c.loop-bank.bank - 68 ≡ 4 = omega arith in
+    let rest : InOrder means puts z.stack (along_banks p i (range_with_len 68 4)) c.loop-bank.self.stack =
+    subst (λ m. InOrder means puts z.stack (along_banks (plan (listed m)) i (range_with_len 68 4)) c.loop-bank.self.stack) second_marks
+    (subst (λ n. InOrder means puts z.stack (along_banks (plan (listed z.marks)) i (range_with_len 68 n)) c.loop-bank.self.stack) all c.loop-bank.invariant.run) in
     let to_line = banks_pass step p i 0 b x.stack x.stack (omega arith) (λ k l h. no_other_line ms low b new par k (omega arith) (omega arith)) (banks_none step p i x.stack) in
     let with_line = banks_more step p i b x.stack x.stack y.stack to_line c.store_bank.ensures.stores.run in
     let to_check = banks_pass step p i (b + 1) q x.stack y.stack (omega arith) (λ k l h. none_between ms low b new par k (omega arith) (omega arith) h) with_line in
@@ -75,7 +83,7 @@ returns g c =
     let to_rest = banks_pass step p i (q + 1) 68 x.stack z.stack (omega arith) (λ k l h. no_other_check ms low b new par k (omega arith) h (omega arith)) with_check in
     record {
       stores = record {
-        run = banks_join step p i 68 4 x.stack z.stack c.loop-n.self.stack to_rest rest;
-        marks = c.loop-n.invariant.marks ∙ second_marks;
+        run = banks_join step p i 68 4 x.stack z.stack c.loop-bank.self.stack to_rest rest;
+        marks = c.loop-bank.invariant.marks ∙ second_marks;
       };
     }

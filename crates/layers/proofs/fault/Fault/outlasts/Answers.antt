@@ -6,6 +6,6 @@ pub returns-in-Flip : goal.returns-in-Flip
 unfolding outlasts
 returns-in-Flip c = search rules
 
-pub returns-in_default : goal.returns-in_default
+pub returns-in-StuckAtOne : goal.returns-in-StuckAtOne
 unfolding outlasts
-returns-in_default c = search rules
+returns-in-StuckAtOne c = search rules

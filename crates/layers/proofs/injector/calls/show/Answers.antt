@@ -4,20 +4,17 @@ use Rattle.layers.specs.Faults.{corrupted}
 use Rattle.layers.proofs.FaultLaws.{acting}
 use Rattle.layers.proofs.injector.calls.show.Goals as goal
 
-pub overflow_sub-at : goal.overflow_sub-at
-overflow_sub-at c = let a = acting c.args.fault.now _ _ _ _ (sym c.if-acts_on.ensures.tells) in a.low
+pub overflow_sub-byte : goal.overflow_sub-byte
+overflow_sub-byte c = let a = acting c.args.fault.now _ _ _ _ (sym c.if-acts_on.ensures.tells) in a.low
 
-pub bounds-into-at : goal.bounds-into-at
-bounds-into-at c = let a = acting c.args.fault.now _ _ _ _ (sym c.if-acts_on.ensures.tells) in omega arith
-
-pub bounds-into-at-then-acts_on : goal.bounds-into-at-then-acts_on
-bounds-into-at-then-acts_on c = let a = acting c.args.fault.now _ _ _ _ (sym c.if-acts_on.ensures.tells) in omega arith
+pub bounds-into-fault : goal.bounds-into-fault
+bounds-into-fault c = let a = acting c.args.fault.now _ _ _ _ (sym c.if-acts_on.ensures.tells) in omega arith
 
 pub returns-then-acts_on : goal.returns-then-acts_on
 unfolding corrupted
 returns-then-acts_on c = record {
   shows =
-      ap (λ (v : ℕ). set c.args.into.now (c.args.fault.now.byte - c.args.from) v) c.alter.ensures.is_altered
+      ap (λ (v : ℕ). set c.args.into.now (c.args.fault.now.byte - c.args.at.byte) v) c.alter.ensures.is_altered
       ∙ sym (cond-true _ _ _ (sym c.if-acts_on.ensures.tells));
 }
 

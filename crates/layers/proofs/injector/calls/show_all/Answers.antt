@@ -9,14 +9,14 @@ pub loop-fault-preserved : goal.loop-fault-preserved
 unfolding corrupted_all
 loop-fault-preserved c =
     let none : Fault = record { bank = 0; index = 0; byte = 0; kind = Flip; mask = 0; delay = 0 } in
-    let F : List Fault → List ℕ = λ fs. corrupted_all fs c.args.bank c.args.index c.args.from c.loop-fault.into in
-    ap (λ (ys : List ℕ). corrupted_all (drop (c.loop-fault.fault-index + 1) c.args.faults.now) c.args.bank c.args.index c.args.from ys) c.show.ensures.shows
+    let F : List Fault → List ℕ = λ fs. corrupted_all fs c.args.at.bank c.args.at.index c.args.at.byte c.loop-fault.into in
+    ap (λ (ys : List ℕ). corrupted_all (drop (c.loop-fault.fault-index + 1) c.args.faults.now) c.args.at.bank c.args.at.index c.args.at.byte ys) c.show.ensures.shows
     ∙ sym (at_drop_more F c.args.faults.now c.loop-fault.fault-index none c.loop-fault-test.true)
     ∙ c.loop-fault.invariant
 
 pub returns : goal.returns
 unfolding corrupted_all
 returns c =
-    let F : List Fault → List ℕ = λ fs. corrupted_all fs c.args.bank c.args.index c.args.from c.loop-fault.into in
+    let F : List Fault → List ℕ = λ fs. corrupted_all fs c.args.at.bank c.args.at.index c.args.at.byte c.loop-fault.into in
     let h : length c.args.faults.now ≤ c.loop-fault.fault-index = omega arith in
     record { shows = sym (at_drop_all F c.args.faults.now c.loop-fault.fault-index h) ∙ c.loop-fault.invariant }

@@ -1,7 +1,7 @@
 use Rattle.std.proofs.Common.{◌≡◌, ℕ, true, false, [], ◌∷◌, ◌++◌, length, sym, refl, ap, ◌∙◌, arith, rules}
 use Rattle.stack.specs.Memory.{Piece, piece, outside}
 use Rattle.stack.specs.Refusals.{judged}
-use Rattle.stack.proofs.PieceLaws.{fits}
+use Rattle.stack.proofs.PieceLaws.{accepted, fits}
 use Rattle.layers.specs.Lines.{is_buffered, has_room, line_of}
 use Rattle.layers.specs.Tables.{lines_in}
 use Rattle.layers.specs.declared.buffer.LineTable.{LineTable}
@@ -10,7 +10,7 @@ use Rattle.layers.proofs.buffer.calls.WriteBufferStack.put.Goals as goal
 
 pub rewrite-requires : goal.rewrite-requires
 rewrite-requires g c =
-    let f = fits _ _ _ _ _ (sym c.if-is_outside.ensures.is_outside) in
+    let f = fits _ _ _ _ _ (accepted _ (sym c.in_ok-check.ensures.refuses_what_lies_outside)) in
     record { part = f.room }
 
 pub returns-then-rewrite : goal.returns-then-rewrite
@@ -18,9 +18,9 @@ returns-then-rewrite g c =
     let s = c.args.self.now in
     let x = g.S.Stack.means s.below in
     let ls = lines_in s.table in
-    let p : Piece = piece c.args.bank c.args.index c.args.from c.args.bytes.now in
+    let p : Piece = piece c.args.at.bank c.args.at.index c.args.at.byte c.args.bytes.now in
     let in' : outside x.size p.bank p.index p.from (length p.bytes) ≡ false =
-    ap (λ (q : ℕ). outside q p.bank p.index p.from (length p.bytes)) (sym c.size.ensures.is_size) ∙ sym c.if-is_outside.ensures.is_outside in
+    ap (λ (q : ℕ). outside q p.bank p.index p.from (length p.bytes)) (sym c.size.ensures.is_size) ∙ accepted _ (sym c.in_ok-check.ensures.refuses_what_lies_outside) in
     let f = fits _ _ _ _ _ in' in
     let is : is_buffered ls p.bank p.index ≡ true = sym c.if-rewrite.ensures.found in
     record {
@@ -34,11 +34,11 @@ returns-then-rewrite g c =
 pub push-requires : goal.push-requires
 push-requires g c =
     let same = c.if-rewrite.ensures.stays refl in
-    let room = room_is (lines_in c.rewrite.new.self) c.args.bank (length c.args.bytes.now) (sym c.if-accepts.ensures.tells) in
+    let room = room_is (lines_in c.rewrite.new.self) c.args.at.bank (length c.args.bytes.now) (sym c.if-accepts.ensures.tells) in
     record {
       room = room.2;
       whole = room.1;
-      other = ap (λ (t : LineTable). is_buffered (lines_in t) c.args.bank c.args.index) same ∙ sym c.if-rewrite.ensures.found;
+      other = ap (λ (t : LineTable). is_buffered (lines_in t) c.args.at.bank c.args.at.index) same ∙ sym c.if-rewrite.ensures.found;
     }
 
 pub returns-then-accepts : goal.returns-then-accepts
@@ -46,9 +46,9 @@ returns-then-accepts g c =
     let s = c.args.self.now in
     let x = g.S.Stack.means s.below in
     let ls = lines_in s.table in
-    let p : Piece = piece c.args.bank c.args.index c.args.from c.args.bytes.now in
+    let p : Piece = piece c.args.at.bank c.args.at.index c.args.at.byte c.args.bytes.now in
     let in' : outside x.size p.bank p.index p.from (length p.bytes) ≡ false =
-    ap (λ (q : ℕ). outside q p.bank p.index p.from (length p.bytes)) (sym c.size.ensures.is_size) ∙ sym c.if-is_outside.ensures.is_outside in
+    ap (λ (q : ℕ). outside q p.bank p.index p.from (length p.bytes)) (sym c.size.ensures.is_size) ∙ accepted _ (sym c.in_ok-check.ensures.refuses_what_lies_outside) in
     let f = fits _ _ _ _ _ in' in
     let same = c.if-rewrite.ensures.stays refl in
     let none : is_buffered ls p.bank p.index ≡ false = sym c.if-rewrite.ensures.found in
@@ -68,7 +68,7 @@ returns g c =
     let s = c.args.self.now in
     let x = g.S.Stack.means s.below in
     let ls = lines_in s.table in
-    let p : Piece = piece c.args.bank c.args.index c.args.from c.args.bytes.now in
+    let p : Piece = piece c.args.at.bank c.args.at.index c.args.at.byte c.args.bytes.now in
     let same = c.if-rewrite.ensures.stays refl in
     let none : is_buffered ls p.bank p.index ≡ false = sym c.if-rewrite.ensures.found in
     let room : has_room ls p.bank (length p.bytes) ≡ false = ap (λ (t : LineTable). has_room (lines_in t) p.bank (length p.bytes)) (sym same) ∙ sym c.if-accepts.ensures.tells in

@@ -1,10 +1,7 @@
-use Rattle.std.proofs.Common.{◌≡◌}
 use Rattle.layers.specs.Tables.{lines_in}
 use Rattle.layers.proofs.BufferLaws.{Draining}
 use Rattle.layers.proofs.buffer.calls.WriteBufferStack.settle.Given as goal
 
--- the table is as it was, and its lines so far are put down
-abbrev pub invariant-loop-j : goal.invariant-loop-j
-invariant-loop-j g l =
-    (l.self.table ≡ l.initial.self.table)
-    × Draining g.S.Stack.means g.S.Stack.puts (lines_in l.initial.self.table) l.j l.initial.self.below l.self.below
+-- the lines so far are put down
+abbrev pub invariant-loop-line : goal.invariant-loop-line
+invariant-loop-line g l = Draining g.S.Stack.means g.S.Stack.puts (lines_in l.fn.self.table) l.line-index l.initial.self.1.0 l.self.1.0

@@ -8,7 +8,7 @@ use Rattle.layers.proofs.injector.calls.FaultInjectorStack.put.Goals as goal
 pub returns : goal.returns
 returns g c =
     let fs = faults_in c.args.self.now.table in
-    let p : Piece = piece c.args.bank c.args.index c.args.from c.args.bytes.now in
+    let p : Piece = piece c.args.at.bank c.args.at.index c.args.at.byte c.args.bytes.now in
     let gone : faults_in c.remove_flips.new.self ≡ outlasting p fs = search rules in
     let below = c.in_ok-put.ensures in
     record {

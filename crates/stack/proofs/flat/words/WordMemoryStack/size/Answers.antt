@@ -1,6 +1,0 @@
-use Rattle.std.proofs.Common.{vec_items, rules}
-use Rattle.stack.proofs.WordLaws.{length_bytes_of}
-use Rattle.stack.proofs.flat.words.WordMemoryStack.size.Goals as goal
-
-pub returns : goal.returns
-returns c = rw (length_bytes_of (vec_items c.args.self.now.words)) (search rules)
