@@ -5,7 +5,7 @@ use Rattle.std.specs.List.{concat, range_with_len}
 use Rattle.std.proofs.lemmas.List.{take_at, drop_at, drop-drop, get_or-take, get_or-drop}
 use Rattle.rules.specs.Places.{xor_over}
 use Rattle.rules.specs.Work.{slot}
-use Rattle.board.specs.State.{line_of}
+use Rattle.board.specs.State.{line_at}
 
 -- each is of 64 bytes, as a line's type says
 abbrev pub Long : List (List ℕ) → Type 0
@@ -22,7 +22,7 @@ slot_next w rest x h =
     let e : 64 * suc x ≡ 64 + 64 * x = omega arith in
     ap (λ n. take 64 (drop n (w ++ rest))) e ∙ ap (take 64) (sym (drop-drop (64 * x) 64 (w ++ rest)) ∙ ap (drop (64 * x)) (drop_at w rest 64 h))
 
-pub slot_line : (ws : List (List ℕ)) (x : ℕ) → Long ws → x < length ws → slot (concat ws) x ≡ line_of ws x
+pub slot_line : (ws : List (List ℕ)) (x : ℕ) → Long ws → x < length ws → slot (concat ws) x ≡ line_at ws x
 slot_line [] x long h = absurd (omega arith)
 slot_line (w ∷ ws) zero long h = slot_first w (concat ws) (long 0 (omega arith))
 slot_line (w ∷ ws) (suc x) long h = slot_next w (concat ws) x (long 0 (omega arith)) ∙ slot_line ws x (tail_long w ws long) (omega arith)
@@ -46,7 +46,7 @@ slot_set_other (w ∷ ws) (suc x) (suc y) line long l ne =
     slot_next w (concat (set ws x line)) y h ∙ slot_set_other ws x y line (tail_long w ws long) l (λ e. ne (ap (λ n. suc n) e)) ∙ sym (slot_next w (concat ws) y h)
 
 -- a part of the lines
-pub part_line : (ws : List (List ℕ)) (lo n x : ℕ) → Long ws → x < n → lo + x < length ws → line_of (take n (drop lo ws)) x ≡ slot (concat ws) (lo + x)
+pub part_line : (ws : List (List ℕ)) (lo n x : ℕ) → Long ws → x < n → lo + x < length ws → line_at (take n (drop lo ws)) x ≡ slot (concat ws) (lo + x)
 part_line ws lo n x long u h = get_or-take n (drop lo ws) x [] u ∙ get_or-drop lo ws x [] ∙ sym (slot_line ws (lo + x) long h)
 
 xor_shift : (f g : ℕ → ℕ) (lo a n : ℕ) → ((x : ℕ) → a ≤ x → x < a + n → f x ≡ g (lo + x)) → xor_over f (range_with_len a n) ≡ xor_over g (range_with_len (lo + a) n)
@@ -57,10 +57,10 @@ xor_shift f g lo a (suc n) h =
     (xor_shift f g lo (a + 1) n (λ x l u. h x (omega arith) (omega arith)) ∙ ap (λ m. xor_over g (range_with_len m n)) e)
 
 pub part_xor : (ws : List (List ℕ)) (lo n k : ℕ) → Long ws → lo + n ≤ length ws
-    → xor_over (λ b. get_or (line_of (take n (drop lo ws)) b) k 0) (range_with_len 0 n) ≡ xor_over (λ b. get_or (slot (concat ws) b) k 0) (range_with_len lo n)
+    → xor_over (λ b. get_or (line_at (take n (drop lo ws)) b) k 0) (range_with_len 0 n) ≡ xor_over (λ b. get_or (slot (concat ws) b) k 0) (range_with_len lo n)
 part_xor ws lo n k long h =
     let e : lo + 0 ≡ lo = omega arith in
-    xor_shift (λ b. get_or (line_of (take n (drop lo ws)) b) k 0) (λ b. get_or (slot (concat ws) b) k 0) lo 0 n
+    xor_shift (λ b. get_or (line_at (take n (drop lo ws)) b) k 0) (λ b. get_or (slot (concat ws) b) k 0) lo 0 n
     (λ x l u. ap (λ w. get_or w k 0) (part_line ws lo n x long (omega arith) (omega arith)))
     ∙ ap (λ m. xor_over (λ b. get_or (slot (concat ws) b) k 0) (range_with_len m n)) e
 

@@ -9,7 +9,7 @@ use Rattle.stack.specs.declared.memory.Stack.{Ghosts}
 use Rattle.stack.specs.declared.refusal.Refusal.{Refusal}
 use Rattle.stack.specs.declared.refusal.Refusal.TheVariants.{AddressOutOfRange, LineLength}
 use Rattle.rules.specs.Answers.{Answer}
-use Rattle.rules.specs.Rules.{State, HostCall, Part, addresses, along, along_banks, answer, argument_check, clearing, first_denied, for_mark, line_of as line_got, otherwise, otherwise_part, piece_at, puts}
+use Rattle.rules.specs.Rules.{State, HostCall, Part, addresses, along, along_banks, answer, argument_check, clearing, first_denied, for_mark, line_of, otherwise, otherwise_part, piece_at, puts}
 use Rattle.rules.specs.Work.{filling, formatting, left_over, scrubbing, slots, storing}
 use Rattle.rules.specs.Places.{line_in, check_in}
 use Rattle.rules.specs.History.{marks_after}
@@ -100,12 +100,12 @@ abbrev pub FormatRun : {X : Type 0} → Ghosts X → X → X → Type 0
 FormatRun {X} G x z = (y : X) × (Zeroed G x y) × (G.settles y z)
 
 -- the line of a bank in a list of lines
-abbrev pub line_of : List (List ℕ) → ℕ → List ℕ
-line_of lines b = slice_index_or lines b []
+abbrev pub line_at : List (List ℕ) → ℕ → List ℕ
+line_at lines b = slice_index_or lines b []
 
 -- of each line in turn, so many symbols of its check from one on
 abbrev pub HasChecks : List (List ℕ) → ℕ → ℕ → List ℕ → Type 0
-HasChecks lines from per row = (k : ℕ) → k < 64 → slice_index row k ≡ slice_index (check (line_of lines (k / per))) (from + k % per)
+HasChecks lines from per row = (k : ℕ) → k < 64 → slice_index row k ≡ slice_index (check (line_at lines (k / per))) (from + k % per)
 
 -- what a scrub of the group of a bank puts at an index, from the lines in a work buffer, and how many bytes of it were shown otherwise
 abbrev pub scrubbed_part : {X : Type 0} → Board X → ℕ → ℕ → List ℕ → ℕ → Option Part
@@ -131,7 +131,7 @@ ScrubsBank G b bank index work at t = Ran G b (scrubbed_piece b bank index work 
 
 -- what a mark of a bank puts, at an index and everywhere
 abbrev pub retired_parts : {X : Type 0} → Ghosts X → Board X → ℕ → ℕ → ℕ → Option Part
-retired_parts G b bank = filling (listed b.marks) bank (λ a. line_got (for_mark (state G b) bank a))
+retired_parts G b bank = filling (listed b.marks) bank (λ a. line_of (for_mark (state G b) bank a))
 
 abbrev pub retired_pieces : {X : Type 0} → Ghosts X → Board X → ℕ → ℕ → List Piece
 retired_pieces G b bank index = along_banks (retired_parts G b bank index) index (range_with_len 0 72)

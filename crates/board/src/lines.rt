@@ -8,7 +8,7 @@ use codec::word::Line;
 pub(crate) fn xor_into(sum: &mut Line, line: &Line)
     ensures adds { (k : ℕ) → k < 64 → slice_index sum.new k ≡ bit_xor (slice_index sum.old k) (slice_index line.now k) }
 {
-    // no `zip` over `iter_mut`: a proof knows nothing then of what it wrote
+    // no `zip` over `iter_mut`: of a loop over what it lends the checker knows nothing afterwards
     for (k, byte) in sum.iter_mut().enumerate() {
         *byte ^= line[k];
     }

@@ -56,6 +56,7 @@ pub fn read_line(text: &[u8]) -> Result<Line, Problem>
     }
     let mut line = [0; 64];
     let (pairs, _) = text.as_chunks::<2>();
+    // no `zip` over `iter_mut`: of a loop over what it lends the checker knows nothing afterwards
     for (k, [high, low]) in pairs.iter().enumerate() {
         line[k] = byte(*high, *low).ok_or(Problem::NoByte(2 * k + 1))?;
     }

@@ -1,6 +1,5 @@
 // The marked banks as a host in C keeps them between calls.
-ghost use Rattle.std.specs.Prelude.{◌≡◌, Some, None, MatchResult};
-ghost use Rattle.board.specs.Marks.{listed};
+ghost use Rattle.std.specs.Prelude.{◌≡◌, Some, MatchResult};
 ghost use Rattle.ffi.specs.Banks.{Given, misgiven, one_more};
 
 use board::marks::Marks;

@@ -20,7 +20,7 @@ pub enum Command {
     Do(Call<u8>),
 }
 
-// The letter of a call.
+// The letter of a call, as the rules give it.
 pub fn letter_of(call: &Call<u8>) -> u8
     ensures is_its_letter { result ≡ letter_of_call call.now }
 {
@@ -50,7 +50,7 @@ pub fn read_command(line: &[u8]) -> Option<Command>
     }
 }
 
-// The call that a line with that letter spells.
+// The call that a line with that letter spells; letters are matched as literals, which the rules of this project ask for.
 fn read_call(letter: u8, line: &[u8]) -> Option<Call<u8>>
     ensures is_what_it_spells { result ≡ call_in letter (fields line.now) }
 {

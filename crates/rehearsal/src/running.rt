@@ -16,7 +16,7 @@ pub fn run<S: Stack>(board: &mut Board<S>, calls: &[Call<&[u8]>], answers: &mut 
     ensures leaves_the_other_answers { LeavesRest calls.now answers.old answers.new }
 {
     let count = calls.len().min(answers.len());
-    // no `zip` over `iter_mut`: a proof knows nothing then of what it wrote
+    // no `zip` over `iter_mut`: of a loop over what it lends the checker knows nothing afterwards
     for (i, call) in calls[..count].iter().enumerate() {
         answers[i] = perform(board, call);
     }

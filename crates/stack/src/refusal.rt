@@ -38,7 +38,7 @@ pub enum Refusal {
 }
 
 impl Refusal {
-    // The number by which a host knows the refusal.
+    // The number by which a host knows the refusal, as the rules give it; no cast does, since two refusals carry addresses.
     pub fn number(&self) -> u8
         ensures is_numbered { result ≡ numbered self.now }
     {

@@ -5,7 +5,7 @@ ghost use Rattle.rules.specs.Places.{xor_over};
 ghost use Rattle.rules.specs.Rules.{row as row_of};
 ghost use Rattle.rules.specs.Work.{slots, taken, Loads};
 ghost use Rattle.board.specs.Marks.{listed};
-ghost use Rattle.board.specs.State.{state, line_of, HasChecks};
+ghost use Rattle.board.specs.State.{state, line_at, HasChecks};
 ghost use Rattle.board.specs.Told.{obtained_by};
 
 mod retiring;
@@ -63,7 +63,8 @@ impl<S: Stack> Site<'_, S> {
 }
 
 impl Marks {
-    // All 64 bytes of a bank at an index whose lines are in a work buffer.
+    // All 64 bytes of a bank at an index whose lines are in a work buffer: a slice, since a proof knows nothing of the lengths of lines in an
+    // array behind a reference.
     fn build_row(&self, bank: usize, work: &[Line]) -> Line
         requires real_bank { bank < 72 }
         requires every_line { length work.now ≡ 64 }
@@ -91,7 +92,7 @@ fn check_row(lines: &[Line], symbols: Range<usize>) -> Line
 {
     let mut row = [0u8; 64];
     let per = symbols.end - symbols.start;
-    // no `chunks_exact_mut`: a proof knows nothing then of what it wrote
+    // no `chunks_exact_mut` with `zip`: of a loop over what it lends the checker knows nothing afterwards
     for (n, line) in lines.iter().enumerate() {
         row[n * per..n * per + per].copy_from_slice(&check_of(line)[symbols.start..symbols.end]);
     }
@@ -100,7 +101,7 @@ fn check_row(lines: &[Line], symbols: Range<usize>) -> Line
 
 // The XOR of lines.
 fn parity_row(lines: &[Line]) -> Line
-    ensures is_their_xor { (k : ℕ) → k < 64 → slice_index result k ≡ xor_over (λ b. slice_index (line_of lines.now b) k) (range_with_len 0 (length lines.now)) }
+    ensures is_their_xor { (k : ℕ) → k < 64 → slice_index result k ≡ xor_over (λ b. slice_index (line_at lines.now b) k) (range_with_len 0 (length lines.now)) }
 {
     let mut row = [0u8; 64];
     for line in lines {
@@ -116,7 +117,7 @@ fn zero(front: &mut [u8; 4096])
     front.fill(0);
 }
 
-// The front of a work buffer, as a line for each of the 64 banks; what is written there is not told of the bytes.
+// The front of a work buffer, as a line for each of the 64 banks. No promise says what the bytes are after lines are written; `zero` follows.
 fn lines_of(front: &mut [u8; 4096]) -> &mut [Line; 64] {
     let (lines, _) = front.as_chunks_mut::<64>();
     let Some(lines) = lines.as_mut_array::<64>() else {

@@ -1,5 +1,5 @@
 // The calls of a write buffer, and those of its table.
-ghost use Rattle.std.specs.Prelude.{◌≡◌, ◌+◌, ◌<◌, ◌≤◌, false, [], ◌∷◌, ◌++◌, length, MatchOption, slice_index_or};
+ghost use Rattle.std.specs.Prelude.{◌≡◌, ◌+◌, ◌<◌, ◌≤◌, false, [], ◌∷◌, ◌++◌, length, MatchOption};
 ghost use Rattle.stack.specs.Memory.{piece};
 ghost use Rattle.stack.specs.Firsts.{first_of};
 ghost use Rattle.layers.specs.Exact.{BufferPasses, BufferPuts, BufferSettles};

@@ -1,7 +1,8 @@
 // A memory in bytes of its own.
 ghost use Rattle.std.specs.Prelude.{◌≡◌, vec_items};
 
-use super::{Entries, FlatMemory, UNIT, fit, read_part, write_part};
+use super::entries::Entries;
+use super::{FlatMemory, UNIT, fit, read_part, write_part};
 
 // 4,608 bytes for each unit of size.
 pub type ByteMemory = FlatMemory<Vec<u8>>;

@@ -2,7 +2,8 @@
 ghost use Rattle.std.specs.Prelude.{◌≡◌, ◌*◌};
 ghost use Rattle.stack.specs.Flat.{Lent, at_least_one, size_of};
 
-use super::{Entries, FlatMemory, UNIT, fit, read_part, write_part};
+use super::entries::Entries;
+use super::{FlatMemory, UNIT, fit, read_part, write_part};
 
 // 4,608 bytes for each unit of size.
 pub type LentMemory<'a> = FlatMemory<&'a mut [u8]>;

@@ -3,7 +3,8 @@ ghost use Rattle.std.specs.Prelude.{◌≡◌, ◌+◌, ◌*◌, ◌<◌, ◌≤
 ghost use Rattle.stack.specs.Flat.{replaced};
 ghost use Rattle.stack.specs.Words.{bytes_of};
 
-use super::{Entries, FlatMemory, UNIT, fit};
+use super::entries::Entries;
+use super::{FlatMemory, UNIT, fit};
 
 // 1,152 words for each unit of size.
 pub type WordMemory = FlatMemory<Vec<u32>>;
@@ -28,7 +29,7 @@ fn set_byte(words: &mut [u32], at: usize, b: u8)
     words[i] = u32::from_le_bytes(lanes);
 }
 
-// Copies a part of the words' bytes.
+// Copies a part of the words' bytes, one by one, since it may begin and end within a word.
 fn copy_out(words: &[u32], at: usize, into: &mut [u8])
     requires lies { at + length into.old ≤ 4 * length words.now }
     ensures copies { into.new ≡ take (length into.old) (drop at (bytes_of words.now)) }
@@ -38,7 +39,7 @@ fn copy_out(words: &[u32], at: usize, into: &mut [u8])
     }
 }
 
-// Writes a part of the words' bytes.
+// Writes a part of the words' bytes, likewise.
 fn copy_in(words: &mut [u32], at: usize, bytes: &[u8])
     requires lies { at + length bytes.now ≤ 4 * length words.old }
     ensures writes { bytes_of words.new ≡ replaced (bytes_of words.old) at bytes.now }

@@ -2,7 +2,7 @@ use Rattle.std.proofs.Common.{◌≡◌, length, get_or, sym, refl, ap, ◌∙�
 use lib.Bits.{bit_xor}
 use Rattle.std.proofs.lemmas.List.{get_or-replicate}
 use Rattle.rules.proofs.Rows.{xor_more}
-use Rattle.board.specs.State.{line_of}
+use Rattle.board.specs.State.{line_at}
 use Rattle.board.proofs.board.rows.parity_row.Goals as goal
 
 pub loop-line-init : goal.loop-line-init
@@ -12,8 +12,8 @@ pub loop-line-preserved : goal.loop-line-preserved
 loop-line-preserved c =
     let n = c.loop-line.line-index in (
       (λ k h. c.xor_into.ensures.adds k h
-          ∙ ap₂ bit_xor (c.loop-line.invariant.0 k h) (ap (λ b. get_or (line_of c.args.lines.now b) k 0) (sym (zero-add n)))
-          ∙ sym (xor_more (λ b. get_or (line_of c.args.lines.now b) k 0) 0 n)),
+          ∙ ap₂ bit_xor (c.loop-line.invariant.0 k h) (ap (λ b. get_or (line_at c.args.lines.now b) k 0) (sym (zero-add n)))
+          ∙ sym (xor_more (λ b. get_or (line_at c.args.lines.now b) k 0) 0 n)),
       omega arith,
     )
 

@@ -9,7 +9,7 @@ use Rattle.rules.specs.Work.{slot, slots}
 use Rattle.rules.proofs.Rows.{row_line, row_first, row_second, row_fifth, row_parity, row_retired}
 use Rattle.rules.proofs.Gathering.{group_room}
 use Rattle.board.specs.Marks.{listed}
-use Rattle.board.specs.State.{line_of}
+use Rattle.board.specs.State.{line_at}
 use Rattle.board.proofs.Seeing.{role_real}
 use Rattle.board.proofs.Slots.{slot_line, part_line, part_xor}
 use Rattle.board.proofs.marks.Marks.build_row.Goals as goal
@@ -23,8 +23,8 @@ returns-in-Line c =
     let u : b < length c.args.work.now = omega (arith, c.requires.every_line) in
     let is = slot_line c.args.work.now b c.told-work u in
     record {
-      is_the_row = λ j. fill_by_all (λ k. image ms (slots w) c.args.bank j k) (line_of c.args.work.now b) 64 0 (c.told-work b u)
-          (λ k h. subst (λ r. get_or (line_of c.args.work.now b) k 0 ≡ image_by ms (slots w) j k r) c.in-Line.ensures.is_its_role
+      is_the_row = λ j. fill_by_all (λ k. image ms (slots w) c.args.bank j k) (line_at c.args.work.now b) 64 0 (c.told-work b u)
+          (λ k h. subst (λ r. get_or (line_at c.args.work.now b) k 0 ≡ image_by ms (slots w) j k r) c.in-Line.ensures.is_its_role
           (row_line ms w j k h b _ s (ap (λ xs. get_or xs k 0) (sym is))));
     }
 
@@ -91,7 +91,7 @@ returns-in-Parity c =
           (λ k h. subst (λ r. get_or c.parity_row.result k 0 ≡ image_by ms (slots w) j k r) c.in-Parity.ensures.is_its_role
           (row_parity ms w j k h q _ real
           (c.parity_row.ensures.is_their_xor k h
-          ∙ ap (λ m. xor_over (λ b. get_or (line_of (take n (drop lo ws)) b) k 0) (range_with_len 0 m)) many
+          ∙ ap (λ m. xor_over (λ b. get_or (line_at (take n (drop lo ws)) b) k 0) (range_with_len 0 m)) many
           ∙ part_xor ws lo n k c.told-work (omega arith)
           ∙ ap₂ (λ a m. xor_over (λ b. get_or (slot w b) k 0) (range_with_len a m)) starts counts)));
     }
