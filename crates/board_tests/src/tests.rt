@@ -63,7 +63,7 @@ fn reads_back<S: Stack>(rt: &impl Abort, board: &Board<S>, count: u8) -> Result<
     Ok(())
 }
 
-// The number of a refusal, or 0.
+// The number of a refusal, or 0: what tests expect is a number.
 fn number<T: Drop>(answer: Result<T, Refusal>) -> u8 {
     answer.err().map_or(0, |refusal| refusal.number())
 }

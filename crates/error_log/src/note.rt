@@ -24,7 +24,7 @@ impl Kind {
     }
 }
 
-// What was found at an address, by its bank and index; symbol and value are 0 where no pair is carried.
+// What was found at an address, by its bank and index; symbol and value are 0 where no pair is carried, as the rules have a note.
 #[derive(Clone, Copy, PartialEq, Eq, Debug)]
 pub struct Note {
     pub bank: usize,

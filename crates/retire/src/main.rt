@@ -85,7 +85,7 @@ fn strike(
     Ok(())
 }
 
-// Stores a line at every address.
+// Stores a line at every address, and counts the calls accepted: in a loop, since a filter that stores would hide the calls.
 fn fill<S: Stack>(rt: &HostRuntime, board: &mut Board<S>, lines: &[Line]) -> anyhow::Result<()> {
     let mut stored: usize = 0;
     for (address, line) in lines.iter().enumerate() {

@@ -49,7 +49,7 @@ impl LineTable {
         first_at(self.standing(), bank, index)
     }
 
-    // Copies a part of the line of that bank and index; false where none is buffered.
+    // Copies a part of the line of that bank and index, and answers whether it did, as a set's `insert` does: false where none is buffered.
     fn show(&self, at: Place, into: &mut [u8]) -> bool
         requires part { at.byte + length into.old ≤ 64 }
         ensures found { result ≡ is_buffered (lines_in self.now) at.bank at.index }
@@ -64,7 +64,7 @@ impl LineTable {
         true
     }
 
-    // Writes a part of the line of that bank and index; false where none is buffered.
+    // Writes a part of the line of that bank and index, and answers whether it did.
     fn rewrite(&mut self, at: Place, bytes: &[u8]) -> bool
         requires part { at.byte + length bytes.now ≤ 64 }
         ensures found { result ≡ is_buffered (lines_in self.old) at.bank at.index }

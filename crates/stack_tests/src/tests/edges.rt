@@ -86,7 +86,7 @@ fn refuses_strikes<S: Stack>(
     refused(rt, pile.strike(Fault { mask: 0, ..good }), 11)
 }
 
-// A length is taken where it fits a size from 1 to 1,024.
+// A length is taken where it fits a size from 1 to 1,024; the tables below have 0 for one that is refused, as a memory of that length has it.
 fn sized(rt: &impl Abort, answer: Result<usize, Refusal>, size: usize) -> Result<(), Fail> {
     let expected = if size == 0 { Err(10) } else { Ok(size) };
     assert_eq!(rt; answer.map_err(|why| why.number()), expected);
