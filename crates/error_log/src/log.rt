@@ -90,7 +90,11 @@ fn count(notes: &[Note], bank: usize) -> usize
     ensures is_the_tally { result ≡ tally_of bank notes.now }
     ensures no_more_than_there_are { result ≤ length notes.now }
 {
-    notes.iter().filter(|note| note.bank == bank).count()
+    // no `filter` with `count`: their loop leaves off at each note that counts, and takes several times as long
+    notes
+        .iter()
+        .map(|note| usize::from(note.bank == bank))
+        .sum()
 }
 
 // The bank from 0 to 63 with the highest tally, the lowest number among equals.

@@ -42,7 +42,9 @@ impl<'a> Iterator for Lines<'a> {
 pub fn count_fields(line: &[u8]) -> usize
     ensures counts_them { result ≡ length (fields line.now) }
 {
-    line.split(|b| *b == TAB).count()
+    // no `split` with `count`: their loop leaves off at each tab, and takes several times as long where there are many
+    let tabs: usize = line.iter().map(|b| usize::from(*b == TAB)).sum();
+    tabs + 1
 }
 
 // The field of that number, from 0 on; an empty one where there are fewer.

@@ -1,5 +1,5 @@
 // A memory with lines buffered above it until they are settled.
-ghost use Rattle.std.specs.Prelude.{◌≡◌, true};
+ghost use Rattle.std.specs.Prelude.{◌≡◌, ◌≤◌, true, length};
 ghost use Rattle.layers.specs.Lines.{orderly};
 
 use super::line::BufferedLine;
@@ -12,6 +12,7 @@ mod calls;
 #[derive(Drop)]
 struct LineTable {
     lines: ArrayVec<BufferedLine, 16>,
+    ghost room: { length lines.items ≤ 16 },
     ghost order: { orderly lines.items ≡ true },
 }
 

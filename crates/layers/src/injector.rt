@@ -1,4 +1,6 @@
 // A memory with faults in the bytes that it shows.
+ghost use Rattle.std.specs.Prelude.{◌≤◌, length};
+
 use super::fault::Fault;
 use arrayvec::ArrayVec;
 use stack::memory::Stack;
@@ -9,6 +11,7 @@ mod calls;
 #[derive(Drop)]
 struct FaultTable {
     faults: ArrayVec<Fault, 64>,
+    ghost room: { length faults.items ≤ 64 },
 }
 
 // Keeps what the memory below keeps, and shows it under the faults of a table.

@@ -147,6 +147,8 @@ impl<S: Stack> Stack for WriteBuffer<S> {
         self.below.size()
     }
 
+    // where it is called the length is known, and so is how to copy that many bytes
+    #[inline(always)]
     fn fetch(&self, at: Place, into: &mut [u8]) -> Result<(), Refusal> {
         at.check(self.below.size(), into.len())?;
         if self.table.show(at, into) {

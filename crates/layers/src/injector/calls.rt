@@ -140,6 +140,8 @@ impl<S: Stack> Stack for FaultInjector<S> {
         self.below.size()
     }
 
+    // where it is called the length is known, and so is how to copy that many bytes
+    #[inline(always)]
     fn fetch(&self, at: Place, into: &mut [u8]) -> Result<(), Refusal> {
         self.below.fetch(at, into)?;
         show_all(self.table.standing(), at, into);

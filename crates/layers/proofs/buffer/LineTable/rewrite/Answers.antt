@@ -13,15 +13,15 @@ returns-in_default c =
     let none = c.in_default.ensures.known in
     record { found = sym none; stays = λ _. refl; writes = sym (rewritten_none (lines_in c.args.self.now) p none) }
 
-pub invariant_of-self : goal.invariant_of-self
-invariant_of-self c =
+pub invariant_of-self-clause-order : goal.invariant_of-self-clause-order
+invariant_of-self-clause-order c =
     let ls = lines_in c.args.self.now in
     let j = c.in-Some.j in
     let p : Piece = piece c.args.at.bank c.args.at.index c.args.at.byte c.args.bytes.now in
     let d : BufferedLine = record { bank = 0; index = 0; bytes = [] } in
     let e = refilled ls c.as_mut_slice.result.now c.standing.result.now j _ d p c.copy_from_slice.new.self (found_at ls p j c.in-Some.ensures.first)
     c.as_mut_slice.ensures.value c.standing.ensures.stands c.copy_from_slice.ensures.after (omega arith) in
-    record { order = ap orderly e ∙ orderly_rewritten ls p c.requires.part c.args.self.now.order }
+    ap orderly e ∙ orderly_rewritten ls p c.requires.part c.args.self.now.order
 
 pub returns : goal.returns
 returns c =

@@ -1,14 +1,27 @@
-use Rattle.std.proofs.Common.{◌≡◌, ℕ, ◌<◌, ◌≤◌, List, [], length, get_or, sym, ap, ◌∙◌, subst, arith}
+use Rattle.std.proofs.Common.{Result, rules, ◌≡◌, ℕ, ◌<◌, ◌≤◌, List, [], length, get_or, sym, ap, ◌∙◌, subst, arith}
 use Rattle.std.proofs.lemmas.List.{get_or_default}
 use Rattle.stack.specs.Memory.{outside, piece}
 use Rattle.stack.specs.Memory as memory
 use Rattle.stack.specs.Refusals.{Stored, judged}
 use Rattle.stack.specs.declared.place.Place.{Place}
+use Rattle.stack.specs.Memory.{Meaning, Piece}
+use Rattle.stack.specs.declared.refusal.Refusal.{Refusal}
 use Rattle.layers.specs.Lines.{overlaid}
+use Rattle.layers.specs.Places.{line_start}
 use Rattle.layers.specs.Tables.{lines_in}
 use Rattle.layers.specs.declared.line.BufferedLine.{BufferedLine}
 use Rattle.layers.proofs.BufferLaws.{draining_none, draining_more, draining_all}
 use Rattle.layers.proofs.buffer.calls.WriteBufferStack.settle.Goals as goal
+
+-- a line is put down where it begins, whatever names it
+module _ {X : Type 0} (means : X → Meaning) (puts : X → Piece → X → Type 0) (x y : X) (r : Result (Unit {0}) Refusal) (l : BufferedLine) where
+  abbrev Down : Place → List ℕ → Type 0
+  Down at bs = (r ≡ judged (outside (means x).size at.bank at.index at.byte (length bs))) × Stored r means puts x (piece at.bank at.index at.byte bs) y
+
+  put_down : (m : BufferedLine) (at : Place) → at ≡ line_start m → m ≡ l → r ≡ judged (outside (means x).size at.bank at.index at.byte (length m.bytes))
+      → Stored r means puts x (piece at.bank at.index at.byte m.bytes) y → Down (line_start l) l.bytes
+  put_down m at e same refuses stores =
+      subst (λ (k : BufferedLine). Down (line_start k) k.bytes) same (subst (λ (a : Place). Down a m.bytes) e (refuses, stores))
 
 pub loop-line-init : goal.loop-line-init
 loop-line-init g c = draining_none (lines_in c.args.self.now.table) c.args.self.now.below
@@ -23,12 +36,9 @@ loop-line-preserved g c =
     let n = ap length c.standing-line-items.ensures.stands in
     let h : c.loop-line.line-index < length (lines_in c.args.self.now.table) = omega (arith, n, c.loop-line-test.true) in
     let read : l ≡ get_or ls i l = ap (λ (xs : List BufferedLine). get_or xs i d) c.standing-line-items.ensures.stands ∙ get_or_default ls i d l h in
-    let e = c.start.ensures.is_the_first_byte in
     let x = c.loop-line.self.1.0 in
-    let down : Place → Type 0 = λ at. Stored c.put.result g.S.Stack.means g.S.Stack.puts x (piece at.bank at.index at.byte l.bytes) c.put.new.self in
-    draining_more g.S.Stack.sound ls i l s.below x c.put.new.self c.put.result s.table.order h read c.loop-line.invariant
-    (c.put.ensures.refuses ∙ ap (λ (at : Place). judged (outside (g.S.Stack.means x).size at.bank at.index at.byte (length l.bytes))) e)
-    (subst down e c.put.ensures.stores)
+    let down = put_down g.S.Stack.means g.S.Stack.puts x c.put.new.self c.put.result l _ _ c.start.ensures.is_the_first_byte (search rules) c.put.ensures.refuses c.put.ensures.stores in
+    draining_more g.S.Stack.sound ls i l s.below x c.put.new.self c.put.result s.table.order h read c.loop-line.invariant down.0 down.1
 
 pub returns : goal.returns
 unfolding overlaid
