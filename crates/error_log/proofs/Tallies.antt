@@ -78,52 +78,64 @@ one_highest ns k b c i j =
     (λ (h : c ≤ b). ⊎_elim (λ (l : c < b). absurd (omega (arith, i.lowest c l, j.most b i.among))) (λ (l : b ≤ c). omega arith) (cases_lt c b))
     (cases_lt b c)
 
--- the bank that is picked by its tally, the greatest first
-by_order : (ns : List Note) (k b : ℕ) (o : Ordering) → nat_cmp (tally_of (suc k) ns) (tally_of b ns) ≡ o → Highest ns k b → Highest ns (suc k) (min_by_ordering o b (suc k))
-by_order ns k b Less e i = keeps ns k b i (grind (arith, nat_tests))
-by_order ns k b Equal e i = keeps ns k b i (grind (arith, nat_tests))
-by_order ns k b Greater e i = takes ns k b i (grind (arith, nat_tests))
+-- the bank that is picked by a key, the greatest first, where keys of two banks are in the order of their tallies
+by_order : (ns : List Note) (k b p q : ℕ) (o : Ordering) → nat_cmp q p ≡ o
+    → (q ≤ p → tally_of (suc k) ns ≤ tally_of b ns) → (p < q → tally_of b ns < tally_of (suc k) ns) → Highest ns k b → Highest ns (suc k) (min_by_ordering o b (suc k))
+by_order ns k b p q Less e low high i = keeps ns k b i (low (grind (arith, nat_tests)))
+by_order ns k b p q Equal e low high i = keeps ns k b i (low (grind (arith, nat_tests)))
+by_order ns k b p q Greater e low high i = takes ns k b i (high (grind (arith, nat_tests)))
 
-key_by_order : (n : ℕ → ℕ) (b x : ℕ) (p k : Reverse ℕ) (o : Ordering) → p.0 ≡ n b → k.0 ≡ n x → (min_by_ordering o p k).0 ≡ n (min_by_ordering o b x)
-key_by_order n b x p k Less e f = e
-key_by_order n b x p k Equal e f = e
-key_by_order n b x p k Greater e f = f
+module _ {F : Type 0} (g : Mut F (Bor ℕ × Unit {0}) (Reverse ℕ)) (f : F) where
+  -- the key of a bank
+  abbrev pub Keyed : ℕ → Reverse ℕ → Type 0
+  Keyed b k = (q : F) × CalledAt g f b k q
+
+  keyed_by_order : (b x : ℕ) (p k : Reverse ℕ) (o : Ordering) → Keyed b p → Keyed x k → Keyed (min_by_ordering o b x) (min_by_ordering o p k)
+  keyed_by_order b x p k Less c d = c
+  keyed_by_order b x p k Equal c d = c
+  keyed_by_order b x p k Greater c d = d
+
+  -- a later bank has the greater key only where it has the greater tally, and the other way round
+  abbrev pub InOrder : List Note → Type 0
+  InOrder ns = (b x : ℕ) (p k : Reverse ℕ) (q r : F) → b < x → x < 64 → CalledAt g f b p q → CalledAt g f x k r
+      → (k.0 ≤ p.0 → tally_of x ns ≤ tally_of b ns) × (p.0 < k.0 → tally_of b ns < tally_of x ns)
 
 module _ {F : Type 0} (g : Mut F (Bor ℕ × Unit {0}) (Reverse ℕ)) (f : F) (ns : List Note)
-    (calls : (x : ℕ) (k : Reverse ℕ) (q : F) → CalledAt g f x k q → (q ≡ f) × (k.0 ≡ tally_of x ns)) where
+    (stays : (x : ℕ) (k : Reverse ℕ) (q : F) → CalledAt g f x k q → q ≡ f) (in_order : InOrder g f ns) where
   abbrev Turn : (F × Reverse ℕ) × ℕ → ℕ → (F × Reverse ℕ) × ℕ → Type 0
   Turn = KeyTurn min_by_ordering min_by_ordering g (λ x y. nat_cmp y.0 x.0)
 
-  best : (m j : ℕ) (s t : (F × Reverse ℕ) × ℕ) → s.0.0 ≡ f → s.0.1.0 ≡ tally_of s.1 ns → Highest ns j s.1
+  best : (m j : ℕ) (s t : (F × Reverse ℕ) × ℕ) → j + m < 64 → s.0.0 ≡ f → Keyed g f s.1 s.0.1 → Highest ns j s.1
       → FoldsTo Turn s (range_with_len (suc j) m) t → Highest ns (j + m) t.1
-  best zero j s t same key i turns =
+  best zero j s t few same key i turns =
       subst (λ n. Highest ns n t.1) (sym (add-zero j)) (subst (λ (u : (F × Reverse ℕ) × ℕ). Highest ns j u.1) turns i)
-  best (suc m) j s t same key i (u, turn, rest) =
+  best (suc m) j s t few same key i (u, turn, rest) =
       let k : Reverse ℕ = turn.0 in
       let o : Ordering = turn.1 in
-      let called = calls (suc j) k u.0.0 (subst (λ h. CalledAt g h (suc j) k u.0.0) same turn.2) in
-      let order : nat_cmp (tally_of (suc j) ns) (tally_of s.1 ns) ≡ o = rw (← called.1, ← key) turn.3 in
-      let next = subst (Highest ns (suc j)) (sym turn.5) (by_order ns j s.1 o order i) in
-      let key_next : u.0.1.0 ≡ tally_of u.1 ns =
-      ap (λ r. r.0) turn.4 ∙ key_by_order (λ b. tally_of b ns) s.1 (suc j) s.0.1 k o key called.1 ∙ ap (λ b. tally_of b ns) (sym turn.5) in
+      let called = subst (λ h. CalledAt g h (suc j) k u.0.0) same turn.2 in
+      let among = i.among in
+      let ord = in_order s.1 (suc j) s.0.1 k key.0 u.0.0 (omega arith) (omega arith) key.1 called in
+      let next = subst (Highest ns (suc j)) (sym turn.5) (by_order ns j s.1 s.0.1.0 k.0 o turn.3 ord.0 ord.1 i) in
+      let key_next : Keyed g f u.1 u.0.1 =
+      subst (λ r. Keyed g f u.1 r) (sym turn.4) (subst (λ b. Keyed g f b (min_by_ordering o s.0.1 k)) (sym turn.5) (keyed_by_order g f s.1 (suc j) s.0.1 k o key (u.0.0, called))) in
       let on : suc j + m ≡ j + suc m = omega arith in
       subst (λ n. Highest ns n t.1) on
-      (best m (suc j) u t called.0 key_next next (subst (λ n. FoldsTo Turn u (range_with_len n m) t) (add-one (suc j)) rest))
+      (best m (suc j) u t (omega arith) (stays (suc j) k u.0.0 called) key_next next (subst (λ n. FoldsTo Turn u (range_with_len n m) t) (add-one (suc j)) rest))
 
 pub picked : {F : Type 0} (g : Mut F (Bor ℕ × Unit {0}) (Reverse ℕ)) (f : F) (ns : List Note) (s : Range ℕ) (r : Option ℕ)
     → PicksMinByKey nat_range_steps g (λ x y. nat_cmp y.0 x.0) s f r → YieldsList nat_range_steps (λ x. x) s (range_with_len 0 64)
-    → ((x : ℕ) (k : Reverse ℕ) (q : F) → CalledAt g f x k q → (q ≡ f) × (k.0 ≡ tally_of x ns)) → r ≡ Some (highest ns 63)
-picked g f ns s None drains road calls =
+    → ((x : ℕ) (k : Reverse ℕ) (q : F) → CalledAt g f x k q → q ≡ f) → InOrder g f ns → r ≡ Some (highest ns 63)
+picked g f ns s None drains road stays in_order =
     let items = items_from_drains [] (drains.1.0, drains.1.1, λ _. (drains.0, drains.1.2)) road in cc
-picked g f ns s (Some y) (x, xs, k, f', q, drains, called, turns) road calls =
+picked g f ns s (Some y) (x, xs, k, f', q, drains, called, turns) road stays in_order =
     let items = items_from_drains (x ∷ xs) (drains.1.0, drains.1.1, λ _. (drains.0, drains.1.2)) road in
     let all : x ∷ xs ≡ range_with_len 0 64 = sym (map-id (x ∷ xs)) ∙ items in
     let first : x ≡ 0 = cc in
     let others : xs ≡ range_with_len 1 63 = cc in
-    let key = calls x k f' called in
     ap Some
     (one_highest ns 63 y (highest ns 63)
-    (best g f ns calls 63 0 ((f', k), x) (q, y) key.0 key.1 (subst (Highest ns 0) (sym first) (first_is ns)) (subst (λ l. FoldsTo (Turn g f ns calls) ((f', k), x) l (q, y)) others turns))
+    (best g f ns stays in_order 63 0 ((f', k), x) (q, y) (omega arith) (stays x k f' called) (f', called) (subst (Highest ns 0) (sym first) (first_is ns))
+    (subst (λ l. FoldsTo (Turn g f ns stays in_order) ((f', k), x) l (q, y)) others turns))
     (highest_is ns 63))
 
 pub worst_some : (ns : List Note) → 0 < length ns → Some (highest ns 63) ≡ worst_of ns

@@ -18,4 +18,5 @@ returns c =
     let e : c.sum.result ≡ tally_of c.args.bank c.args.notes.now =
     sum_by_from_yields_List (λ (n : Note). cond {A = ℕ} (eqb n.bank c.args.bank) 1 0) c.args.notes.now c.map.result _ c.sum.ensures.ran
     (YieldsList-from_map _ (λ (n : Note). cond {A = ℕ} (eqb n.bank c.args.bank) 1 0) (YieldsList-at c.map.ensures.source (YieldsList-from_slice c.args.notes.now c.iter.ensures.rest)) c.map.ensures.closure (λ x r q k. search (rules, tests))) in
-    record { is_the_tally = e; no_more_than_there_are = omega (arith, e, count_by-le-length (λ (n : Note). eqb n.bank c.args.bank) c.args.notes.now) }
+    let few = count_by-le-length (λ (n : Note). eqb n.bank c.args.bank) c.args.notes.now in
+    record { is_the_tally = omega (arith, e, few); no_more_than_there_are = omega (arith, e, few) }

@@ -16,6 +16,7 @@ pub returns : goal.returns
 returns c =
     let ns : List Note = c.args.notes.now in
     let e : c.min_by_key.result ≡ Some (highest ns 63) =
-    picked _ _ ns _ c.min_by_key.result c.min_by_key.ensures.ran (YieldsList-from_range 0 64 64 refl refl) (λ x k q called. search (rules, tests)) in
+    picked _ _ ns _ c.min_by_key.result c.min_by_key.ensures.ran (YieldsList-from_range 0 64 64 refl refl) (λ x k q called. search (rules, tests))
+    (λ b x p k q r later few at_b at_x. (λ h. search (rules, tests, arith), λ h. search (rules, tests, arith))) in
     let some : 0 < length ns = (let z = eqb-false (length ns) 0 (sym c.if-is_empty.ensures) in omega arith) in
     record { is_the_worst_bank = e ∙ worst_some ns some; has_the_highest_tally = subst (Worst ns) (sym e) (worst_is ns) }

@@ -1,10 +1,9 @@
 use Rattle.std.proofs.Common.{Result, rules, ◌≡◌, ℕ, ◌<◌, ◌≤◌, List, [], length, get_or, sym, ap, ◌∙◌, subst, arith}
 use Rattle.std.proofs.lemmas.List.{get_or_default}
-use Rattle.stack.specs.Memory.{outside, piece}
+use Rattle.stack.specs.Memory.{Meaning, Piece, outside, piece}
 use Rattle.stack.specs.Memory as memory
 use Rattle.stack.specs.Refusals.{Stored, judged}
 use Rattle.stack.specs.declared.place.Place.{Place}
-use Rattle.stack.specs.Memory.{Meaning, Piece}
 use Rattle.stack.specs.declared.refusal.Refusal.{Refusal}
 use Rattle.layers.specs.Lines.{overlaid}
 use Rattle.layers.specs.Places.{line_start}
