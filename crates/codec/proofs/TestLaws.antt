@@ -123,3 +123,8 @@ told_err (Err x) line e = refl
 pub kept_err : (r : Result Finding Uncorrectable) (before after : List ℕ) → after ≡ before → Kept r before after
 kept_err (Ok f) before after e = tt
 kept_err (Err x) before after e = e
+
+-- what holds by the calls for a value and for none holds by what the calls give
+pub by_calls : (A B : Type 0) (P Q : (ℕ × ℕ) → Type 0) (o : Option (ℕ × ℕ)) → MatchOption o A P → (A → B) → ((p : ℕ × ℕ) → P p → Q p) → MatchOption o B Q
+by_calls A B P Q None m f g = f m
+by_calls A B P Q (Some p) m f g = g p m
